@@ -1,0 +1,173 @@
+-- What a session calls keeps to the limits of a call.
+use Rattle.std.proofs.Common.{◌≡◌, ◌+◌, ◌≤◌, Bool, true, false, cond, nat_lt, List, [], ◌∷◌, ◌++◌, length, refl, sym, ap, subst, arith, rules, tests}
+use Rattle.std.specs.Prelude.{Option, Some, None}
+use Rattle.std.specs.List.{AllByRecursion}
+use Rattle.df_model.specs.Values.{Bytes}
+use Rattle.df_model.specs.Words.{Words, is_name}
+use Rattle.df_model.specs.Reads.{Reading, Row, Shape, rows, reads, reads_by, counted, key, set, ping}
+use Rattle.df_model.specs.Framing.{IsWord, IsRequest}
+use Rattle.df_model.specs.Session.{State, Step, Heard, Given, Control, heard, heard_as, given, machine, ready_step, queueing_step, append, execute, session_step, without_memory, MAX_QUEUED}
+use Rattle.df_model.specs.Calls.{HasWords, IsCall}
+use Rattle.df_model.specs.History.{Item}
+use Rattle.df_model.specs.Output.{Walk}
+use Rattle.df_model.specs.Laws.{SessionsCall}
+use Rattle.df_model.specs.declared.session.Why.{Why}
+use Rattle.df_model.specs.declared.command.OneOp.TheVariants.{Get}
+use Rattle.df_model.specs.declared.command.Command.{Command}
+use Rattle.df_model.specs.declared.command.Command.TheVariants.{Plain, One, Many, Whole, Wrong}
+use Rattle.df_model.specs.declared.reply.Reply.{Reply}
+
+-- ---- words: a row makes a command of the words that it is given
+
+abbrev KeepsWords : Shape → Type 0
+KeepsWords shape = (words : Words) (command : Command) → AllByRecursion IsWord words → shape words ≡ Some command → HasWords command
+
+some_injective : {A : Type 0} (x y : A) → Option.Some x ≡ Some y → x ≡ y
+some_injective x y e = cc
+
+key_keeps : KeepsWords (key Get)
+key_keeps [] command all e = cc
+key_keeps (k ∷ []) command all e = subst HasWords (some_injective _ command e) all
+key_keeps (k ∷ a ∷ more) command all e = cc
+
+set_keeps : KeepsWords set
+set_keeps [] command all e = cc
+set_keeps (k ∷ []) command all e = cc
+set_keeps (k ∷ value ∷ []) command all e = subst HasWords (some_injective _ command e) all
+set_keeps (k ∷ value ∷ option ∷ more) command all e = subst HasWords (some_injective _ command e) tt
+
+ping_keeps : KeepsWords ping
+ping_keeps [] command all e = subst HasWords (some_injective _ command e) tt
+ping_keeps (message ∷ []) command all e = subst HasWords (some_injective _ command e) all
+ping_keeps (a ∷ b ∷ more) command all e = cc
+
+rows_keep : AllByRecursion (λ r. KeepsWords r.shape) rows
+rows_keep = (key_keeps, (set_keeps, (ping_keeps, tt)))
+
+runs_injective : (x y : Command) → Reading.Runs x ≡ Reading.Runs y → x ≡ y
+runs_injective x y e = cc
+
+counted_keeps : (name : Bytes) (found : Option Command) (command : Command) → ((c : Command) → found ≡ Some c → HasWords c) → counted name found ≡ Reading.Runs command → HasWords command
+counted_keeps name None command h e = cc
+counted_keeps name (Some c) command h e = h command (ap Some (runs_injective c command e))
+
+by_name : (b : Bool) (one other : Reading) (command : Command) → (one ≡ Reading.Runs command → HasWords command) → (other ≡ Reading.Runs command → HasWords command) → cond b one other ≡ Reading.Runs command → HasWords command
+by_name true one other command h g e = h e
+by_name false one other command h g e = g e
+
+reads_keep : (rs : List Row) (name : Bytes) (words : Words) (command : Command) → AllByRecursion (λ r. KeepsWords r.shape) rs → AllByRecursion IsWord words → reads_by rs name words ≡ Reading.Runs command → HasWords command
+reads_keep [] name words command keep all e = cc
+reads_keep (r ∷ rs) name words command keep all e =
+    by_name (is_name name r.name) (counted r.name (r.shape words)) (reads_by rs name words) command
+    (counted_keeps r.name (r.shape words) command (λ c. keep.0 words c all))
+    (reads_keep rs name words command keep.1 all) e
+
+-- ---- states and steps
+
+-- what is queued keeps to the limits
+abbrev IsSound : State → Type 0
+IsSound State.Ready = Unit {0}
+IsSound (State.Queueing commands broken) = (length commands ≤ MAX_QUEUED) × AllByRecursion HasWords commands
+
+abbrev Keeps : Heard → Type 0
+Keeps (Heard.Spoken command) = HasWords command
+Keeps (Heard.Controls control) = Unit {0}
+Keeps (Heard.Refused error) = Unit {0}
+
+abbrev Calls : Given → Type 0
+Calls (Given.Replies reply) = Unit {0}
+Calls (Given.Calls call) = IsCall call
+Calls (Given.Parts reply) = Unit {0}
+Calls Given.Leaves = Unit {0}
+
+abbrev StepKeeps : Step → Type 0
+StepKeeps step = Calls step.0 × IsSound step.1
+
+heard_keeps : (reading : Reading) → ((command : Command) → reading ≡ Reading.Runs command → HasWords command) → Keeps (heard_as reading)
+heard_keeps (Reading.Runs command) h = h command refl
+heard_keeps Reading.Unknown h = tt
+heard_keeps (Reading.Arity name) h = tt
+
+request_keeps : (words : Words) → IsRequest words → Keeps (heard words)
+request_keeps [] is = tt
+request_keeps (name ∷ words) is = heard_keeps (reads (name ∷ words)) (λ command e. reads_keep rows name words command rows_keep is.each.1 e)
+
+given_keeps : (command : Command) → HasWords command → Calls (given command)
+given_keeps (Plain op) has = tt
+given_keeps (One key op) has = has
+given_keeps (Many op) has = elim op [ ]
+given_keeps (Whole op) has = elim op [ ]
+given_keeps (Wrong error) has = tt
+
+ready_keeps : (request : Heard) → Keeps request → StepKeeps (ready_step request)
+ready_keeps (Heard.Spoken command) has = (given_keeps command has, tt)
+ready_keeps (Heard.Controls Control.Multi) has = (tt, (omega arith, tt))
+ready_keeps (Heard.Controls Control.Exec) has = (tt, tt)
+ready_keeps (Heard.Controls Control.Discard) has = (tt, tt)
+ready_keeps (Heard.Controls Control.Quit) has = (tt, tt)
+ready_keeps (Heard.Controls Control.Shutdown) has = (tt, tt)
+ready_keeps (Heard.Refused error) has = (tt, tt)
+
+one_more : (commands : List Command) (command : Command) → AllByRecursion HasWords commands → HasWords command → AllByRecursion HasWords (commands ++ command ∷ [])
+one_more [] command all has = (has, tt)
+one_more (c ∷ commands) command all has = (all.0, one_more commands command all.1 has)
+
+length_one_more : (commands : List Command) (command : Command) → length (commands ++ command ∷ []) ≡ length commands + 1
+length_one_more [] command = omega arith
+length_one_more (c ∷ commands) command = omega (arith, length_one_more commands command)
+
+append_chosen : (b : Bool) (commands : List Command) (broken : Bool) (command : Command) → (b ≡ true → length commands + 1 ≤ MAX_QUEUED) → IsSound (State.Queueing commands broken) → HasWords command →
+    (queue refuse : Step) → (queue ≡ (queue.0, State.Queueing (commands ++ command ∷ []) broken)) → Calls queue.0 → StepKeeps refuse → StepKeeps (cond b queue refuse)
+append_chosen true commands broken command fits sound has queue refuse e calls other =
+    (calls, subst (λ s. IsSound s.1) (sym e) (subst (λ n. n ≤ MAX_QUEUED) (sym (length_one_more commands command)) (fits refl), one_more commands command sound.1 has))
+append_chosen false commands broken command fits sound has queue refuse e calls other = other
+
+append_keeps : (commands : List Command) (broken : Bool) (command : Command) → IsSound (State.Queueing commands broken) → HasWords command → StepKeeps (append commands broken command)
+append_keeps commands broken command sound has =
+    append_chosen (nat_lt (length commands) MAX_QUEUED) commands broken command (λ e. search (rules, tests)) sound has _ _ refl tt (tt, sound)
+
+execute_keeps : (commands : List Command) (broken : Bool) → IsSound (State.Queueing commands broken) → StepKeeps (execute commands broken)
+execute_keeps commands true sound = (tt, tt)
+execute_keeps commands false sound = (sound, tt)
+
+queueing_keeps : (commands : List Command) (broken : Bool) (request : Heard) → IsSound (State.Queueing commands broken) → Keeps request → StepKeeps (queueing_step commands broken request)
+queueing_keeps commands broken (Heard.Spoken command) sound has = append_keeps commands broken command sound has
+queueing_keeps commands broken (Heard.Controls Control.Multi) sound has = (tt, sound)
+queueing_keeps commands broken (Heard.Controls Control.Exec) sound has = execute_keeps commands broken sound
+queueing_keeps commands broken (Heard.Controls Control.Discard) sound has = (tt, tt)
+queueing_keeps commands broken (Heard.Controls Control.Quit) sound has = (tt, sound)
+queueing_keeps commands broken (Heard.Controls Control.Shutdown) sound has = (tt, sound)
+queueing_keeps commands broken (Heard.Refused error) sound has = (tt, sound)
+
+machine_keeps : (state : State) (request : Heard) → IsSound state → Keeps request → StepKeeps (machine state request)
+machine_keeps State.Ready request sound has = ready_keeps request has
+machine_keeps (State.Queueing commands broken) request sound has = queueing_keeps commands broken request sound has
+
+step_keeps : (state : State) (words : Words) (step : Step) → IsSound state → IsRequest words → session_step state words ≡ step → StepKeeps step
+step_keeps state words step sound is e = subst StepKeeps e (machine_keeps state (heard words) sound (request_keeps words is))
+
+broken_keeps : (state : State) → IsSound state → IsSound (without_memory state)
+broken_keeps State.Ready sound = tt
+broken_keeps (State.Queueing commands broken) sound = sound
+
+-- ---- walks
+
+walk_calls : {end : Why} (state : State) (requests : List Words) (items : List Item) (replies : List Reply) → Walk end state requests items replies →
+    IsSound state → AllByRecursion IsRequest requests → AllByRecursion (λ item. IsCall item.call) items
+walk_calls _ _ _ _ (Walk.done state last) sound all = tt
+walk_calls _ _ _ _ (Walk.stopped state requests may) sound all = tt
+walk_calls _ _ _ _ (Walk.parted state words requests reply after is end) sound all = tt
+walk_calls _ _ _ _ (Walk.left state words requests after is end) sound all = tt
+walk_calls _ _ _ _ (Walk.replied state words requests items reply replies after is walk) sound all =
+    walk_calls after requests items replies walk (step_keeps state words (Given.Replies reply, after) sound all.0 is).1 all.1
+walk_calls _ _ _ _ (Walk.called state words requests item items replies after is walk) sound all =
+    let kept : StepKeeps (Given.Calls item.call, after) = step_keeps state words (Given.Calls item.call, after) sound all.0 is in
+    (kept.0, walk_calls after requests items replies walk kept.1 all.1)
+walk_calls _ _ _ _ (Walk.not_run state words requests items replies call after is walk) sound all =
+    walk_calls after requests items replies walk (step_keeps state words (Given.Calls call, after) sound all.0 is).1 all.1
+walk_calls _ _ _ _ (Walk.not_taken state words requests items replies walk) sound all =
+    walk_calls (without_memory state) requests items replies walk (broken_keeps state sound) all.1
+walk_calls _ _ _ _ (Walk.turned_away state is) sound all = tt
+
+pub calls_of_sessions : SessionsCall
+calls_of_sessions requests end items out all output = walk_calls State.Ready requests items output.replies output.walk tt all

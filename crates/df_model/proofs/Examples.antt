@@ -1,0 +1,100 @@
+-- The tables compute: what some requests spell, mean and are answered with, from the Redis command pages.
+use Rattle.std.proofs.Common.{◌≡◌, [], ◌∷◌, ◌++◌, refl, codes}
+use Rattle.std.specs.Prelude.{Some, None, false}
+use Rattle.df_model.specs.Values.{Value}
+use Rattle.df_model.specs.Reads.{reads, Reading}
+use Rattle.df_model.specs.Outcomes.{Change}
+use Rattle.df_model.specs.Meaning.Strings as strings
+use Rattle.df_model.specs.Replies.{encoding_step}
+use Rattle.df_model.specs.Session.{State, Given, session_step}
+use Rattle.df_model.specs.Hash.{shard_of}
+use Rattle.df_model.specs.declared.command.PlainOp.TheVariants.{Ping}
+use Rattle.df_model.specs.declared.command.OneOp.TheVariants.{Get, Set}
+use Rattle.df_model.specs.declared.command.Guard.TheVariants.{Always}
+use Rattle.df_model.specs.declared.command.Command.TheVariants.{Plain, One, Wrong}
+use Rattle.df_model.specs.declared.command.Call.TheVariants as calls
+use Rattle.df_model.specs.declared.reply.ErrorText.TheVariants as errors
+use Rattle.df_model.specs.declared.reply.Reply.TheOpen.{Reply-F}
+use Rattle.df_model.specs.declared.reply.Reply.TheVariants.{Simple, Error, Bulk, NullBulk}
+
+-- ---- words
+
+ping_in_any_case : reads (codes "piNg" ∷ []) ≡ Reading.Runs (Plain (Ping None))
+ping_in_any_case = refl
+
+ping_with_a_message : reads (codes "PING" ∷ codes "hi" ∷ []) ≡ Reading.Runs (Plain (Ping (Some (codes "hi"))))
+ping_with_a_message = refl
+
+ping_with_two : reads (codes "PING" ∷ codes "a" ∷ codes "b" ∷ []) ≡ Reading.Arity (codes "ping")
+ping_with_two = refl
+
+set_reads : reads (codes "Set" ∷ codes "a" ∷ codes "1" ∷ []) ≡ Reading.Runs (One (codes "a") (Set (codes "1") Always))
+set_reads = refl
+
+set_with_a_fourth_word : reads (codes "SET" ∷ codes "a" ∷ codes "1" ∷ codes "NX" ∷ []) ≡ Reading.Runs (Wrong errors.Syntax)
+set_with_a_fourth_word = refl
+
+get_with_no_key : reads (codes "GET" ∷ []) ≡ Reading.Arity (codes "get")
+get_with_no_key = refl
+
+unknown_before_the_count : reads (codes "NOPE" ∷ codes "a" ∷ []) ≡ Reading.Unknown
+unknown_before_the_count = refl
+
+-- ---- meaning: a row, from what the key holds
+
+get_of_a_missing_key : strings.get None ≡ NullBulk
+get_of_a_missing_key = refl
+
+get_of_an_empty_value : strings.get (Some (Value.Str [])) ≡ Bulk []
+get_of_an_empty_value = refl
+
+get_of_another_kind : strings.get (Some (Value.Elements (codes "p" ∷ []))) ≡ Error errors.WrongKind
+get_of_another_kind = refl
+
+set_replaces_another_kind : strings.set (codes "1") Always (Some (Value.Elements (codes "p" ∷ []))) ≡ (Simple (codes "OK"), Change.Put (Value.Str (codes "1")))
+set_replaces_another_kind = refl
+
+-- ---- replies: one layer of a reply
+
+ok_bytes : encoding_step (Reply-F.Simple (codes "OK")) ≡ 43 ∷ 79 ∷ 75 ∷ 13 ∷ 10 ∷ []
+ok_bytes = refl
+
+null_bytes : encoding_step Reply-F.NullBulk ≡ codes "$-1" ++ 13 ∷ 10 ∷ []
+null_bytes = refl
+
+arity_bytes : encoding_step (Reply-F.Error (errors.Arity (codes "get"))) ≡ codes "-ERR wrong number of arguments for 'get' command" ++ 13 ∷ 10 ∷ []
+arity_bytes = refl
+
+-- ---- the session machine
+
+ping_is_answered_at_once : session_step State.Ready (codes "PING" ∷ []) ≡ (Given.Replies (Simple (codes "PONG")), State.Ready)
+ping_is_answered_at_once = refl
+
+get_is_a_call : session_step State.Ready (codes "GET" ∷ codes "a" ∷ []) ≡ (Given.Calls (calls.Single (One (codes "a") Get)), State.Ready)
+get_is_a_call = refl
+
+a_command_is_queued : session_step (State.Queueing [] false) (codes "GET" ∷ codes "a" ∷ []) ≡ (Given.Replies (Simple (codes "QUEUED")), State.Queueing (One (codes "a") Get ∷ []) false)
+a_command_is_queued = refl
+
+-- ---- shards: with four of them a stands on 0, b on 1, c on 2, d and x on 3, y on 0, z on 1
+
+shard_of_a : shard_of (codes "a") 4 ≡ 0
+shard_of_a = refl
+
+shard_of_b : shard_of (codes "b") 4 ≡ 1
+shard_of_b = refl
+
+shard_of_c : shard_of (codes "c") 4 ≡ 2
+shard_of_c = refl
+
+shard_of_d : shard_of (codes "d") 4 ≡ 3
+shard_of_d = refl
+
+shard_of_x : shard_of (codes "x") 4 ≡ 3
+shard_of_x = refl
+
+shard_of_y : shard_of (codes "y") 4 ≡ 0
+shard_of_y = refl
+
+shard_of_z : shard_of (codes "z") 4 ≡ 1
+shard_of_z = refl

@@ -1,0 +1,4 @@
+pub mod FramingLaws
+pub mod LocalityLaws
+pub mod CallLaws
+mod Examples
