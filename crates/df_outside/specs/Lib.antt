@@ -1,0 +1,9 @@
+pub mod Faults
+pub mod Streams
+pub mod Disks
+pub mod FaultPlans
+pub mod Cuts
+pub mod MemSources
+pub mod MemSinks
+pub mod Contents
+pub mod MemDisks
