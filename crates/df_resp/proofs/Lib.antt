@@ -1,0 +1,12 @@
+pub mod CountLaws
+pub mod EncodingLaws
+pub mod FrameLaws
+pub mod FramedLaws
+pub mod HeadLaws
+pub mod Languages
+pub mod LineLaws
+pub mod NextLaws
+pub mod RestLaws
+pub mod SeenLaws
+pub mod StepLaws
+pub mod WordLaws

@@ -1,0 +1,9 @@
+pub mod Appended
+pub mod Frames
+pub mod Laws
+pub mod Lines
+pub mod Next
+pub mod Scan
+pub mod Seen
+pub mod Steps
+pub mod Stream

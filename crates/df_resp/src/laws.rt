@@ -1,0 +1,9 @@
+//! Laws of the definitions, each the contract of a function that does nothing.
+
+ghost use Rattle.df_resp.specs.Laws.{EveryListIsFramed};
+
+/// Whatever bytes come, they are whole requests, in order, and then a rest that begins with no whole
+/// one. So an output that is said of the framed requests is said of every input.
+pub fn every_list_is_framed()
+    ensures { EveryListIsFramed }
+{}

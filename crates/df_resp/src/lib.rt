@@ -1,0 +1,19 @@
+//! RESP2: requests from a stream in any pieces, and replies to bytes.
+//!
+//! How a request is taken: `Reader` keeps what came. `front` looks at what stands first, a frame's line
+//! or a word. `input` takes it from the buffer, step by step, and counts the bytes. After the last word
+//! `Reader::next` gives the words. What a reader promises is in specs/Next and specs/Stream; specs/Scan,
+//! Lines and Frames read the same bytes as functions on lists, and proofs/ shows that these are right.
+#![tactic(auto)]
+
+mod encoder;
+mod front;
+mod input;
+pub mod laws;
+mod limits;
+mod reader;
+#[cfg(test)]
+mod tests;
+
+pub use encoder::{encode, encode_bulk, encode_error, encode_null, encode_simple};
+pub use reader::{Next, Reader};
