@@ -1,0 +1,8 @@
+pub mod AnswerLaws
+pub mod EndLaws
+pub mod FeedLaws
+pub mod KeyLaws
+pub mod RunLaws
+pub mod ServedLaws
+pub mod TurnLaws
+pub mod WriteLaws

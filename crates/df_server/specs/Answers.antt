@@ -1,0 +1,24 @@
+-- How a session answers one request from its own keyspace.
+use Rattle.std.specs.Prelude.{◌≡◌, ◌⊎◌, List, Bool, ◌++◌}
+use Rattle.df_model.specs.Values.{Bytes}
+use Rattle.df_model.specs.Keyspace.{Keyspace}
+use Rattle.df_model.specs.Replies.{encoding_of}
+use Rattle.df_model.specs.Session.{Given}
+use Rattle.df_model.specs.Calls.{Allowed}
+use Rattle.df_model.specs.declared.reply.ErrorText.TheVariants as errors
+use Rattle.df_model.specs.declared.reply.Reply.{Reply}
+use Rattle.df_model.specs.declared.reply.Reply.TheVariants.{Error}
+
+-- what the machine gives may be answered so, and leaves this keyspace
+abbrev pub Answers : Given → Keyspace → Reply → Keyspace → Type 0
+Answers (Given.Replies reply) K answer after = ((answer ≡ reply) ⊎ (answer ≡ Error errors.Memory)) × (after ≡ K)
+Answers (Given.Calls call) K answer after =
+    ((marks : List Bool) × Allowed call marks K answer after) ⊎ ((answer ≡ Error errors.Memory) × (after ≡ K))
+Answers (Given.Parts reply) K answer after = ⊥
+Answers Given.Leaves K answer after = ⊥
+
+-- the request was answered, and the bytes of the answer were added
+pub record Replied (given : Given) (K after : Keyspace) (old new : Bytes) : Type 0 where
+  pub answer : Reply
+  pub answers : Answers given K answer after
+  pub added : new ≡ old ++ encoding_of answer

@@ -1,0 +1,13 @@
+//! The server: the words of the command line, and one session over a source and a sink.
+#![tactic(auto)]
+
+mod keys;
+mod pipe;
+mod program;
+mod reading;
+mod session;
+
+pub use program::offline;
+
+#[cfg(test)]
+mod tests;

@@ -1,0 +1,233 @@
+//! One session over a source and a sink.
+//!
+//! A turn reads once, answers each request that is whole by then, and writes the answers together.
+//! All memory for reading and writing is kept from turn to turn.
+
+ghost use Rattle.std.specs.Prelude.{◌≡◌, ◌<◌, ◌≤◌, [], ◌++◌, length, IfOk, OnOk};
+ghost use Rattle.df_model.specs.Values.{Bytes};
+ghost use Rattle.df_model.specs.Keyspace.{no_keys};
+ghost use Rattle.df_server.specs.Serving.{Served};
+ghost use Rattle.df_server.specs.Pipe.{IsGood, Answering, HasWritten, after_of, status_of, Turns, ReadsOn, Ran, Underway};
+
+use crate::keys::Keys;
+use crate::session::serve;
+use df_model::BadKind;
+use df_outside::{Got, Put, Sink, Source};
+use df_resp::{Next, Reader};
+use std::alloc::Global;
+
+/// Bytes that a session takes at the most (1 TiB), so that it ends whatever the source does.
+const INPUT_LIMIT: usize = 1099511627776;
+
+/// Bytes of the buffer that a read fills.
+const READ_SIZE: usize = 16384;
+
+/// Why a session over a source and a sink ended.
+#[derive(Clone, Copy, Debug)]
+pub enum End {
+    InputEnd,
+    /// The input is bad: what was expected, and where.
+    Bad(BadKind, u64),
+    NoMemory,
+    ReadFault,
+    WriteFault,
+    /// The limit of input was reached.
+    Limit,
+}
+
+impl End {
+    /// The status of a program that ends so.
+    pub fn status(self) -> u8
+        ensures { result ≡ status_of self }
+    {
+        match self {
+            End::InputEnd => 0,
+            End::Bad(_, _) => 1,
+            End::NoMemory => 4,
+            End::ReadFault => 7,
+            End::WriteFault => 8,
+            End::Limit => 9,
+        }
+    }
+}
+
+/// What a write of a whole piece came to.
+#[derive(Clone, Copy, Debug)]
+pub enum Written {
+    Whole,
+    Failed,
+    NoMemory,
+}
+
+/// What answering the whole requests came to.
+#[derive(Clone, Copy, Debug)]
+enum Answered {
+    All,
+    /// All, and behind them the input is bad.
+    Bad(BadKind, u64),
+    NoMemory,
+}
+
+/// A session: what was read and isn't answered yet, its keyspace, and its answers.
+#[derive(Drop)]
+struct Session {
+    alloc: Global,
+    reader: Reader,
+    keys: Keys,
+    output: Vec<u8>,
+}
+
+/// Serves a session to its end.
+pub fn run<S: Source, O: Sink>(alloc: Global, input: &mut S, out: &mut O) -> End
+    ensures { Ran result (S.inflow input.old) (S.inflow input.new) (O.outflow out.old) (O.outflow out.new) }
+{
+    let Ok(mut buffer) = vec![in alloc; 0u8; READ_SIZE] else {
+        return End::NoMemory;
+    };
+    let mut session = Session::new(alloc);
+    session.run(&mut buffer, input, out)
+}
+
+impl Session {
+    fn new(alloc: Global) -> Session
+        ensures good { IsGood result.reader }
+        ensures rest { result.reader.rest ≡ [] }
+        ensures keys { result.keys ≡ no_keys }
+    {
+        Session {
+            alloc,
+            reader: Reader::new(alloc),
+            keys: Keys::new(alloc),
+            output: Vec::new(alloc),
+        }
+    }
+
+    /// Reads and answers until the input ends.
+    fn run<S: Source, O: Sink>(&mut self, buffer: &mut [u8], input: &mut S, out: &mut O) -> End
+        requires good { IsGood self.old.reader }
+        requires rest { self.old.reader.rest ≡ [] }
+        requires keys { self.old.keys ≡ no_keys }
+        requires room { 0 < length buffer.old }
+        ensures { Ran result (S.inflow input.old) (S.inflow input.new) (O.outflow out.old) (O.outflow out.new) }
+    {
+        let mut taken = 0;
+        'turns: while taken < INPUT_LIMIT {
+            let room = buffer.len().min(INPUT_LIMIT - taken);
+            match self.read_turn(taken, &mut buffer[..room], input, out) {
+                Ok(count) => taken += count,
+                Err(end) => return end,
+            }
+        }
+        End::Limit
+    }
+
+    /// Reads once, and answers what is whole then. At `Ok` so many bytes came.
+    fn read_turn<S: Source, O: Sink>(
+        &mut self,
+        taken: usize,
+        buffer: &mut [u8],
+        input: &mut S,
+        out: &mut O,
+    ) -> Result<usize, End>
+        requires good { IsGood self.old.reader }
+        requires room { 0 < length buffer.old }
+        requires below { taken < INPUT_LIMIT }
+        ensures good { OnOk result (IsGood self.new.reader) }
+        ensures some { IfOk result (λ count. 0 < count) }
+        ensures fits { IfOk result (λ count. count ≤ length buffer.old) }
+        ensures reads { ReadsOn result taken self.old.keys self.new.keys self.old.reader.rest self.new.reader.rest (S.inflow input.old) (S.inflow input.new) (O.outflow out.old) (O.outflow out.new) }
+    {
+        match input.read(buffer) {
+            Got::Took(count) => {
+                self.turn(&buffer[..count], out)?;
+                Ok(count)
+            }
+            Got::End => Err(End::InputEnd),
+            Got::NoMemory => Err(End::NoMemory),
+            Got::Failed => Err(End::ReadFault),
+            // Sources never say so.
+            Got::NotYet => Err(End::ReadFault),
+        }
+    }
+
+    /// Answers what is whole with this piece, and writes the answers.
+    fn turn<O: Sink>(&mut self, piece: &[u8], out: &mut O) -> Result<(), End>
+        requires { IsGood self.old.reader }
+        ensures good { OnOk result (IsGood self.new.reader) }
+        ensures turns { (bytes sent : Bytes) → Served no_keys bytes sent self.old.keys self.old.reader.rest →
+            Turns result (bytes ++ piece.now) sent self.new.keys self.new.reader.rest (O.outflow out.old) (O.outflow out.new) }
+    {
+        let answered = self.answer_piece(piece);
+        let written = write_all(self.output.as_slice(), out);
+        after(answered, written)
+    }
+
+    /// Answers what is whole with this piece. Only the answers to it stand in the output then.
+    fn answer_piece(&mut self, piece: &[u8]) -> Answered
+        requires { IsGood self.old.reader }
+        ensures good { result ≡ Answered.All → IsGood self.new.reader }
+        ensures answering { (bytes sent : Bytes) → Served no_keys bytes sent self.old.keys self.old.reader.rest →
+            Answering result (bytes ++ piece.now) (sent ++ self.new.output.items) self.new.keys self.new.reader.rest }
+    {
+        self.output.clear();
+        if self.reader.feed(piece).is_err() {
+            return Answered::NoMemory;
+        }
+        self.answer_all()
+    }
+
+    /// Answers each request that is whole.
+    fn answer_all(&mut self) -> Answered
+        requires { IsGood self.old.reader }
+        ensures good { result ≡ Answered.All → IsGood self.new.reader }
+        ensures answering { (bytes sent : Bytes) → Served no_keys bytes (sent ++ self.old.output.items) self.old.keys self.old.reader.rest →
+            Answering result bytes (sent ++ self.new.output.items) self.new.keys self.new.reader.rest }
+    {
+        'requests: loop {
+            match self.reader.next() {
+                Ok(Next::Words(words)) => {
+                    let served = serve(
+                        self.alloc,
+                        &mut self.keys,
+                        words.as_slice(),
+                        &mut self.output,
+                    );
+                    if served.is_err() {
+                        return Answered::NoMemory;
+                    }
+                }
+                Ok(Next::NeedMore) => return Answered::All,
+                Ok(Next::Bad { kind, at }) => return Answered::Bad(kind, at),
+                Err(_) => return Answered::NoMemory,
+            }
+        }
+    }
+}
+
+/// Writes a piece, in as few writes as the sink takes.
+pub fn write_all<O: Sink>(piece: &[u8], out: &mut O) -> Written
+    ensures { HasWritten result piece.now (O.outflow out.old) (O.outflow out.new) }
+{
+    let mut rest = piece;
+    'writes: while !rest.is_empty() {
+        match out.write(rest) {
+            Put::Took(count) => rest = &rest[count..],
+            Put::Failed | Put::NotYet => return Written::Failed,
+            Put::NoMemory => return Written::NoMemory,
+        }
+    }
+    Written::Whole
+}
+
+/// What follows from what was answered and what was written.
+fn after(answered: Answered, written: Written) -> Result<(), End>
+    ensures { result ≡ after_of answered written }
+{
+    match (written, answered) {
+        (Written::Failed, _) => Err(End::WriteFault),
+        (Written::NoMemory, _) => Err(End::NoMemory),
+        (Written::Whole, Answered::All) => Ok(()),
+        (Written::Whole, Answered::Bad(kind, at)) => Err(End::Bad(kind, at)),
+        (Written::Whole, Answered::NoMemory) => Err(End::NoMemory),
+    }
+}

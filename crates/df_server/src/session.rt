@@ -1,0 +1,149 @@
+//! One request of a session, from its words to its reply's bytes.
+//!
+//! What if memory runs out? All of it is taken before the keyspace changes: the reply's bytes come
+//! first, and the put is the last step. So a command that finds none changes nothing, and the reply
+//! says so. Where that reply finds none either, nothing is added, and the session has to end.
+
+ghost use Rattle.std.specs.Prelude.{◌≡◌, ◌++◌, Some, OnOk, OnErr};
+ghost use Rattle.df_model.specs.Values.{Value};
+ghost use Rattle.df_model.specs.Keyspace.{held, with_held};
+ghost use Rattle.df_model.specs.Outcomes as outcomes;
+ghost use Rattle.df_model.specs.Meaning.{meaning};
+ghost use Rattle.df_model.specs.Meaning.Keyless as keyless;
+ghost use Rattle.df_model.specs.Meaning.Strings as strings;
+ghost use Rattle.df_model.specs.Replies.{encoding_of};
+ghost use Rattle.df_model.specs.Reads.{reads};
+ghost use Rattle.df_model.specs.Session.{State, session_step};
+ghost use Rattle.df_server.specs.Answers.{Replied};
+ghost use Rattle.df_server.specs.Responses.{response, Gives, guard_allows};
+
+use crate::keys::Keys;
+use crate::reading::{Refusal, read_command};
+use bytes::Bytes;
+use df_model::{Bin, Command, ErrorText, Guard, NoMemory, OneOp, PlainOp};
+use df_resp::{encode_bulk, encode_error, encode_null, encode_simple};
+use std::alloc::Global;
+
+/// Answers a request: adds the reply's bytes, and changes the keyspace as the command says.
+pub fn serve(
+    alloc: Global,
+    keys: &mut Keys,
+    words: &[Bytes],
+    out: &mut Vec<u8>,
+) -> Result<(), NoMemory>
+    ensures ok { OnOk result (Replied (session_step State.Ready words.now).0 keys.old keys.new out.old.items out.new.items) }
+    ensures keys { OnErr result (keys.new ≡ keys.old) }
+    ensures out { OnErr result (out.new.items ≡ out.old.items) }
+{
+    match answer(alloc, keys, words, out) {
+        Ok(()) => Ok(()),
+        Err(_) => encode_error(&ErrorText::Memory, out),
+    }
+}
+
+fn answer(
+    alloc: Global,
+    keys: &mut Keys,
+    words: &[Bytes],
+    out: &mut Vec<u8>,
+) -> Result<(), NoMemory>
+    ensures ok { OnOk result (Gives (response (reads words.now) keys.old) keys.new out.old.items out.new.items) }
+    ensures keys { OnErr result (keys.new ≡ keys.old) }
+    ensures out { OnErr result (out.new.items ≡ out.old.items) }
+{
+    match read_command(alloc, words) {
+        Ok(command) => run(keys, command, out),
+        Err(Refusal::Unknown) => encode_error(&ErrorText::Unknown, out),
+        Err(Refusal::Arity(error)) => encode_error(&error, out),
+        Err(Refusal::NoMemory) => Err(NoMemory),
+    }
+}
+
+fn run(keys: &mut Keys, command: Command, out: &mut Vec<u8>) -> Result<(), NoMemory>
+    ensures ok { OnOk result (Gives (meaning command keys.old) keys.new out.old.items out.new.items) }
+    ensures keys { OnErr result (keys.new ≡ keys.old) }
+    ensures out { OnErr result (out.new.items ≡ out.old.items) }
+{
+    match command {
+        Command::Plain(PlainOp::Ping(message)) => ping(message, out),
+        Command::One(key, op) => run_one(keys, key, op, out),
+        Command::Many(op) => match op {},
+        Command::Whole(op) => match op {},
+        Command::Wrong(error) => encode_error(&error, out),
+    }
+}
+
+fn ping(message: Option<Bin>, out: &mut Vec<u8>) -> Result<(), NoMemory>
+    ensures ok { OnOk result (out.new.items ≡ out.old.items ++ encoding_of (keyless.ping message)) }
+    ensures err { OnErr result (out.new.items ≡ out.old.items) }
+{
+    match message {
+        None => encode_simple(b"PONG", out),
+        Some(message) => encode_bulk(message.as_slice(), out),
+    }
+}
+
+fn run_one(keys: &mut Keys, key: Bin, op: OneOp, out: &mut Vec<u8>) -> Result<(), NoMemory>
+    ensures ok { OnOk result (Gives (meaning (Command.One key op) keys.old) keys.new out.old.items out.new.items) }
+    ensures keys { OnErr result (keys.new ≡ keys.old) }
+    ensures out { OnErr result (out.new.items ≡ out.old.items) }
+{
+    match op {
+        OneOp::Get => get(keys, &key, out),
+        OneOp::Set(value, guard) => set(keys, key, value, guard, out),
+    }
+}
+
+fn get(keys: &Keys, key: &Bin, out: &mut Vec<u8>) -> Result<(), NoMemory>
+    ensures ok { OnOk result (out.new.items ≡ out.old.items ++ encoding_of (strings.get (held keys.now key.now))) }
+    ensures err { OnErr result (out.new.items ≡ out.old.items) }
+{
+    match keys.get(key) {
+        None => encode_null(out),
+        Some(value) => encode_bulk(value.as_slice(), out),
+    }
+}
+
+fn set(
+    keys: &mut Keys,
+    key: Bin,
+    value: Bin,
+    guard: Guard,
+    out: &mut Vec<u8>,
+) -> Result<(), NoMemory>
+    ensures ok { OnOk result (Gives (meaning (Command.One key (OneOp.Set value guard)) keys.old) keys.new out.old.items out.new.items) }
+    ensures keys { OnErr result (keys.new ≡ keys.old) }
+    ensures out { OnErr result (out.new.items ≡ out.old.items) }
+{
+    if allows(keys, &key, guard) {
+        put(keys, key, value, out)
+    } else {
+        encode_null(out)
+    }
+}
+
+/// Whether the guard lets a SET put its value.
+fn allows(keys: &Keys, key: &Bin, guard: Guard) -> bool
+    ensures { result ≡ guard_allows guard (held keys.now key.now) }
+{
+    match guard {
+        Guard::Always => true,
+        Guard::Nx => keys.get(key).is_none(),
+        Guard::Xx => keys.get(key).is_some(),
+    }
+}
+
+/// Puts the value and answers OK.
+fn put(keys: &mut Keys, key: Bin, value: Bin, out: &mut Vec<u8>) -> Result<(), NoMemory>
+    ensures ok { OnOk result (Gives (outcomes.ok, with_held keys.old key (Some (Value.Str value))) keys.new out.old.items out.new.items) }
+    ensures keys { OnErr result (keys.new ≡ keys.old) }
+    ensures out { OnErr result (out.new.items ≡ out.old.items) }
+{
+    let len = out.len();
+    encode_simple(b"OK", out)?;
+    if let Err(refused) = keys.put(key, value) {
+        out.truncate(len);
+        return Err(refused);
+    }
+    Ok(())
+}
