@@ -1,21 +1,31 @@
 -- What a session calls keeps to the limits of a call.
-use Rattle.std.proofs.Common.{◌≡◌, ◌+◌, ◌≤◌, Bool, true, false, cond, nat_lt, List, [], ◌∷◌, ◌++◌, length, refl, sym, ap, subst, arith, rules, tests}
+use Rattle.std.proofs.Common.{◌≡◌, ◌⊎◌, inl, inr, ℕ, ◌+◌, ◌<◌, ◌≤◌, Bool, true, false, cond, nat_lt, List, [], ◌∷◌, ◌++◌, length, refl, sym, ap, subst, ◌∙◌, arith, rules, tests}
 use Rattle.std.specs.Prelude.{Option, Some, None}
 use Rattle.std.specs.List.{AllByRecursion}
 use Rattle.df_model.specs.Values.{Bytes}
 use Rattle.df_model.specs.Words.{Words, is_name}
-use Rattle.df_model.specs.Reads.{Reading, Row, Shape, rows, reads, reads_by, counted, key, set, ping}
+use Rattle.df_model.specs.Reads.{Reading, linked, reads_linked, reads_by, counted}
+use Rattle.df_model.specs.Reads.Shapes.{Row, Shape, key, set, ping, set_by, guards}
 use Rattle.df_model.specs.Framing.{IsWord, IsRequest}
-use Rattle.df_model.specs.Session.{State, Step, Heard, Given, Control, heard, heard_as, given, machine, ready_step, queueing_step, append, execute, session_step, without_memory, MAX_QUEUED}
-use Rattle.df_model.specs.Calls.{HasWords, IsCall}
+use Rattle.df_model.specs.Session.{State, Step, Heard, Given, Control, heard, heard_as, given, machine, ready_step, queueing_step, append, execute, saves, session_step, without_memory, MAX_QUEUED}
+use Rattle.df_model.specs.Calls.{HasWords, MayQueue, IsCall}
 use Rattle.df_model.specs.History.{Item}
-use Rattle.df_model.specs.Output.{Walk}
+use Rattle.df_model.specs.Output.{Walk, SessionOutput}
 use Rattle.df_model.specs.Laws.{SessionsCall}
 use Rattle.df_model.specs.declared.session.Why.{Why}
-use Rattle.df_model.specs.declared.command.OneOp.TheVariants.{Get}
+use Rattle.df_model.specs.declared.command.OneOp.{OneOp}
+use Rattle.df_model.specs.declared.command.OneOp.TheVariants.{Get, Set}
+use Rattle.df_model.specs.declared.command.Guard.{Guard}
+use Rattle.df_model.specs.declared.command.Guard.TheVariants.{Always}
+use Rattle.df_model.specs.declared.command.PlainOp.{PlainOp}
+use Rattle.df_model.specs.declared.command.PlainOp.TheVariants.{Ping}
 use Rattle.df_model.specs.declared.command.Command.{Command}
 use Rattle.df_model.specs.declared.command.Command.TheVariants.{Plain, One, Many, Whole, Wrong}
+use Rattle.df_model.specs.declared.command.Call.{Call}
+use Rattle.df_model.specs.declared.command.Call.TheVariants.{Single, Exec}
+use Rattle.df_model.specs.declared.reply.ErrorText.TheVariants as errors
 use Rattle.df_model.specs.declared.reply.Reply.{Reply}
+use Rattle.df_model.specs.declared.reply.Reply.TheVariants.{Error}
 
 -- ---- words: a row makes a command of the words that it is given
 
@@ -30,19 +40,23 @@ key_keeps [] command all e = cc
 key_keeps (k ∷ []) command all e = subst HasWords (some_injective _ command e) all
 key_keeps (k ∷ a ∷ more) command all e = cc
 
+set_by_keeps : (k bytes : Bytes) (guard : Option Guard) → IsWord k → IsWord bytes → HasWords (set_by k bytes guard)
+set_by_keeps k bytes None a b = tt
+set_by_keeps k bytes (Some guard) a b = (a, (b, tt))
+
 set_keeps : KeepsWords set
 set_keeps [] command all e = cc
 set_keeps (k ∷ []) command all e = cc
-set_keeps (k ∷ value ∷ []) command all e = subst HasWords (some_injective _ command e) all
-set_keeps (k ∷ value ∷ option ∷ more) command all e = subst HasWords (some_injective _ command e) tt
+set_keeps (k ∷ bytes ∷ options) command all e =
+    subst HasWords (some_injective _ command e) (set_by_keeps k bytes (guards (Some Always) options) all.0 all.1.0)
 
 ping_keeps : KeepsWords ping
 ping_keeps [] command all e = subst HasWords (some_injective _ command e) tt
 ping_keeps (message ∷ []) command all e = subst HasWords (some_injective _ command e) all
 ping_keeps (a ∷ b ∷ more) command all e = cc
 
-rows_keep : AllByRecursion (λ r. KeepsWords r.shape) rows
-rows_keep = (key_keeps, (set_keeps, (ping_keeps, tt)))
+linked_keep : AllByRecursion (λ r. KeepsWords r.shape) linked
+linked_keep = (key_keeps, (set_keeps, (ping_keeps, tt)))
 
 runs_injective : (x y : Command) → Reading.Runs x ≡ Reading.Runs y → x ≡ y
 runs_injective x y e = cc
@@ -67,7 +81,7 @@ reads_keep (r ∷ rs) name words command keep all e =
 -- what is queued keeps to the limits
 abbrev IsSound : State → Type 0
 IsSound State.Ready = Unit {0}
-IsSound (State.Queueing commands broken) = (length commands ≤ MAX_QUEUED) × AllByRecursion HasWords commands
+IsSound (State.Queueing commands broken) = (length commands ≤ MAX_QUEUED) × AllByRecursion MayQueue commands
 
 abbrev Keeps : Heard → Type 0
 Keeps (Heard.Spoken command) = HasWords command
@@ -90,13 +104,13 @@ heard_keeps (Reading.Arity name) h = tt
 
 request_keeps : (words : Words) → IsRequest words → Keeps (heard words)
 request_keeps [] is = tt
-request_keeps (name ∷ words) is = heard_keeps (reads (name ∷ words)) (λ command e. reads_keep rows name words command rows_keep is.each.1 e)
+request_keeps (name ∷ words) is = heard_keeps (reads_linked (name ∷ words)) (λ command e. reads_keep linked name words command linked_keep is.each.1 e)
 
 given_keeps : (command : Command) → HasWords command → Calls (given command)
 given_keeps (Plain op) has = tt
-given_keeps (One key op) has = has
-given_keeps (Many op) has = elim op [ ]
-given_keeps (Whole op) has = elim op [ ]
+given_keeps (One k op) has = has
+given_keeps (Many op) has = has
+given_keeps (Whole op) has = has
 given_keeps (Wrong error) has = tt
 
 ready_keeps : (request : Heard) → Keeps request → StepKeeps (ready_step request)
@@ -108,7 +122,7 @@ ready_keeps (Heard.Controls Control.Quit) has = (tt, tt)
 ready_keeps (Heard.Controls Control.Shutdown) has = (tt, tt)
 ready_keeps (Heard.Refused error) has = (tt, tt)
 
-one_more : (commands : List Command) (command : Command) → AllByRecursion HasWords commands → HasWords command → AllByRecursion HasWords (commands ++ command ∷ [])
+one_more : (commands : List Command) (command : Command) → AllByRecursion MayQueue commands → MayQueue command → AllByRecursion MayQueue (commands ++ command ∷ [])
 one_more [] command all has = (has, tt)
 one_more (c ∷ commands) command all has = (all.0, one_more commands command all.1 has)
 
@@ -116,13 +130,13 @@ length_one_more : (commands : List Command) (command : Command) → length (comm
 length_one_more [] command = omega arith
 length_one_more (c ∷ commands) command = omega (arith, length_one_more commands command)
 
-append_chosen : (b : Bool) (commands : List Command) (broken : Bool) (command : Command) → (b ≡ true → length commands + 1 ≤ MAX_QUEUED) → IsSound (State.Queueing commands broken) → HasWords command →
+append_chosen : (b : Bool) (commands : List Command) (broken : Bool) (command : Command) → (b ≡ true → length commands + 1 ≤ MAX_QUEUED) → IsSound (State.Queueing commands broken) → MayQueue command →
     (queue refuse : Step) → (queue ≡ (queue.0, State.Queueing (commands ++ command ∷ []) broken)) → Calls queue.0 → StepKeeps refuse → StepKeeps (cond b queue refuse)
 append_chosen true commands broken command fits sound has queue refuse e calls other =
     (calls, subst (λ s. IsSound s.1) (sym e) (subst (λ n. n ≤ MAX_QUEUED) (sym (length_one_more commands command)) (fits refl), one_more commands command sound.1 has))
 append_chosen false commands broken command fits sound has queue refuse e calls other = other
 
-append_keeps : (commands : List Command) (broken : Bool) (command : Command) → IsSound (State.Queueing commands broken) → HasWords command → StepKeeps (append commands broken command)
+append_keeps : (commands : List Command) (broken : Bool) (command : Command) → IsSound (State.Queueing commands broken) → MayQueue command → StepKeeps (append commands broken command)
 append_keeps commands broken command sound has =
     append_chosen (nat_lt (length commands) MAX_QUEUED) commands broken command (λ e. search (rules, tests)) sound has _ _ refl tt (tt, sound)
 
@@ -130,8 +144,13 @@ execute_keeps : (commands : List Command) (broken : Bool) → IsSound (State.Que
 execute_keeps commands true sound = (tt, tt)
 execute_keeps commands false sound = (sound, tt)
 
+spoken_keeps : (b : Bool) (commands : List Command) (broken : Bool) (command : Command) → saves command ≡ b → IsSound (State.Queueing commands broken) → HasWords command →
+    StepKeeps (cond b (Given.Replies (Error errors.NotInside), State.Queueing commands true) (append commands broken command))
+spoken_keeps true commands broken command e sound has = (tt, sound)
+spoken_keeps false commands broken command e sound has = append_keeps commands broken command sound (has, e)
+
 queueing_keeps : (commands : List Command) (broken : Bool) (request : Heard) → IsSound (State.Queueing commands broken) → Keeps request → StepKeeps (queueing_step commands broken request)
-queueing_keeps commands broken (Heard.Spoken command) sound has = append_keeps commands broken command sound has
+queueing_keeps commands broken (Heard.Spoken command) sound has = spoken_keeps (saves command) commands broken command refl sound has
 queueing_keeps commands broken (Heard.Controls Control.Multi) sound has = (tt, sound)
 queueing_keeps commands broken (Heard.Controls Control.Exec) sound has = execute_keeps commands broken sound
 queueing_keeps commands broken (Heard.Controls Control.Discard) sound has = (tt, tt)

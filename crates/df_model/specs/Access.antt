@@ -4,7 +4,8 @@ use Rattle.std.specs.Cmp.Lexicographic.{pointwise}
 use Rattle.std.specs.FinMap as map
 use Rattle.df_model.specs.Values.{Bytes}
 use Rattle.df_model.specs.Keyspace.{Keyspace, held, with_held}
-use Rattle.df_model.specs.Outcomes.{KeyRow, settled}
+use Rattle.df_model.specs.Words.{same}
+use Rattle.df_model.specs.Outcomes.{KeyRow, Change, settled}
 use Rattle.df_model.specs.declared.reply.Reply.{Reply}
 
 -- a reply, and the keyspace that is left
@@ -23,7 +24,7 @@ names a = a.reads ++ a.writes
 
 abbrev pub among : List Bytes → Bytes → Bool
 among [] key = false
-among (k ∷ ks) key = pointwise nat_eq k key || among ks key
+among (k ∷ ks) key = same k key || among ks key
 
 -- the keyspace at these keys alone
 abbrev pub part : Keyspace → List Bytes → Keyspace
@@ -51,3 +52,7 @@ abbrev pub on_key : Bytes → KeyRow → Access
 on_key key (KeyRow.Looks row) = looking (key ∷ []) (λ K. row (held K key))
 on_key key (KeyRow.Changes row) =
     changing (key ∷ []) (λ K. ((row (held K key)).0, with_held K key (settled (row (held K key)).1 (held K key))))
+
+-- the keyspace with this change of a key
+abbrev pub with_change : Bytes → Change → Keyspace → Keyspace
+with_change key change K = with_held K key (settled change (held K key))

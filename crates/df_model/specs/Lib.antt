@@ -3,6 +3,10 @@ pub mod formers
 pub mod Values
 pub mod Keyspace
 pub mod Words
+pub mod Numbers
+pub mod Ranges
+pub mod Patterns
+pub mod Members
 pub mod Reads
 pub mod Outcomes
 pub mod Access

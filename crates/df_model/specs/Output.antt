@@ -1,9 +1,9 @@
 -- The output of a session: the encoded replies, in the order of its requests.
-use Rattle.std.specs.Prelude.{◌≡◌, ◌⊎◌, List, [], ◌∷◌}
+use Rattle.std.specs.Prelude.{◌≡◌, ◌⊎◌, List, [], ◌∷◌, ◌++◌}
 use Rattle.std.specs.List.{flat_map}
 use Rattle.df_model.specs.Values.{Bytes}
 use Rattle.df_model.specs.Words.{Words}
-use Rattle.df_model.specs.Replies.{encoding_of}
+use Rattle.df_model.specs.Replies.{encoding_of, protocol_error}
 use Rattle.df_model.specs.Session.{State, Given, session_step, without_memory}
 use Rattle.df_model.specs.History.{Item}
 use Rattle.df_model.specs.declared.command.Call.{Call}
@@ -76,8 +76,22 @@ pub data Walk (end : Why) : State → List Words → List Item → List Reply �
   -- a connection too many: no request is looked at
   turned_away : (state : State) → end ≡ ends.TooMany → Walk end state [] [] (Error errors.TooMany ∷ [])
 
--- From its beginning the session walked its requests with these items, and these are the bytes of its replies.
+-- what stands behind the replies of a session that ends so
+abbrev pub farewell : Why → Bytes
+farewell ends.InputEnd = []
+farewell ends.Quit = []
+farewell ends.Asked = []
+farewell ends.Stopped = []
+farewell (ends.Protocol kind at) = protocol_error kind
+farewell ends.ReadFault = []
+farewell ends.WriteFault = []
+farewell ends.TooMany = []
+farewell ends.Spent = []
+farewell ends.NoMemory = []
+
+-- From its beginning the session walked its requests with these items; these are the bytes of its replies, and of
+-- the protocol error where its input is bad.
 pub record SessionOutput (requests : List Words) (end : Why) (items : List Item) (out : Bytes) : Type 0 where
   pub replies : List Reply
   pub walk : Walk end State.Ready requests items replies
-  pub out_is : out ≡ flat_map encoding_of replies
+  pub out_is : out ≡ flat_map encoding_of replies ++ farewell end

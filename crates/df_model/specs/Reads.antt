@@ -1,55 +1,25 @@
--- The command that the words of a request spell: a table with a row a command.
-use Rattle.std.specs.Prelude.{List, [], ◌∷◌, Option, Some, None, codes, if◌then◌else◌}
+-- The command that the words of a request spell: a table with a row a command, in groups.
+pub mod Shapes
+pub mod Keyless
+pub mod Any
+pub mod Strings
+pub mod Lists
+pub mod Hashes
+pub mod Sets
+use Rattle.std.specs.Prelude.{List, [], ◌∷◌, ◌++◌, Option, Some, None, codes, if◌then◌else◌}
 use Rattle.df_model.specs.Values.{Bytes}
 use Rattle.df_model.specs.Words.{Words, is_name}
+use Rattle.df_model.specs.Reads.Shapes.{Row, row, key, set, ping}
+use Rattle.df_model.specs.Reads.Keyless as keyless
+use Rattle.df_model.specs.Reads.Any as any
+use Rattle.df_model.specs.Reads.Strings as strings
+use Rattle.df_model.specs.Reads.Lists as lists
+use Rattle.df_model.specs.Reads.Hashes as hashes
+use Rattle.df_model.specs.Reads.Sets as sets
 use Rattle.df_model.specs.declared.command.PlainOp.TheVariants.{Ping}
-use Rattle.df_model.specs.declared.command.OneOp.{OneOp}
 use Rattle.df_model.specs.declared.command.OneOp.TheVariants.{Get, Set}
-use Rattle.df_model.specs.declared.command.Guard.TheVariants.{Always}
 use Rattle.df_model.specs.declared.command.Command.{Command}
 use Rattle.df_model.specs.declared.command.Command.TheVariants.{Plain, One, Wrong}
-use Rattle.df_model.specs.declared.reply.ErrorText.TheVariants.{Syntax}
-
--- ---- shapes: how the words behind a name are read, None at a count of words that the command doesn't have
-
-abbrev pub Shape : Type 0
-Shape = Words → Option Command
-
--- [message]
-abbrev pub ping : Shape
-ping [] = Some (Plain (Ping None))
-ping (message ∷ []) = Some (Plain (Ping (Some message)))
-ping (a ∷ b ∷ more) = None
-
--- key
-abbrev pub key : OneOp → Shape
-key op [] = None
-key op (k ∷ []) = Some (One k op)
-key op (k ∷ a ∷ more) = None
-
--- key value, and no option that is known so far
-abbrev pub set : Shape
-set [] = None
-set (k ∷ []) = None
-set (k ∷ value ∷ []) = Some (One k (Set value Always))
-set (k ∷ value ∷ option ∷ more) = Some (Wrong Syntax)
-
--- ---- the table
-
--- a name in lower case, and how the words behind it are read
-pub record Row : Type 0 where
-  pub name : Bytes
-  pub shape : Shape
-
-abbrev row : Bytes → Shape → Row
-row name shape = record { name = name; shape = shape }
-
-abbrev pub rows : List Row
-rows =
-    row (codes "get") (key Get) ∷
-    row (codes "set") set ∷
-    row (codes "ping") ping ∷
-    []
 
 -- what words spell
 pub data Reading : Type 0 where
@@ -67,7 +37,53 @@ abbrev pub reads_by : List Row → Bytes → Words → Reading
 reads_by [] name words = Reading.Unknown
 reads_by (r ∷ rs) name words = if is_name name r.name then counted r.name (r.shape words) else reads_by rs name words
 
--- an unknown name is looked for first, then the count of words, then options from left to right
+-- an unknown name is looked for first, then the count of words, then options and numbers from left to right
+abbrev pub reads_in : List Row → Words → Reading
+reads_in table [] = Reading.Unknown
+reads_in table (name ∷ words) = reads_by table name words
+
+-- ---- the table, group by group: the rows from each group on
+
+abbrev pub from_keyless : List Row
+from_keyless = keyless.rows
+
+abbrev pub from_any : List Row
+from_any = any.rows ++ from_keyless
+
+abbrev pub from_sets : List Row
+from_sets = sets.rows ++ from_any
+
+abbrev pub from_lists : List Row
+from_lists = lists.rows ++ from_sets
+
+abbrev pub from_hashes : List Row
+from_hashes = hashes.rows ++ from_lists
+
+abbrev pub from_strings : List Row
+from_strings = strings.rows ++ from_hashes
+
+abbrev pub rows : List Row
+rows = from_strings
+
 abbrev pub reads : Words → Reading
-reads [] = Reading.Unknown
-reads (name ∷ words) = reads_by rows name words
+reads = reads_in rows
+
+-- ---- the rows whose commands run: any other name is unknown to a session so far
+
+abbrev pub linked : List Row
+linked =
+    row (codes "get") (key Get) ∷
+    row (codes "set") set ∷
+    row (codes "ping") ping ∷
+    []
+
+abbrev pub reads_linked : Words → Reading
+reads_linked = reads_in linked
+
+-- the commands that these rows spell
+abbrev pub IsLinked : Command → Type 0
+IsLinked (Plain (Ping message)) = Unit {0}
+IsLinked (One k Get) = Unit {0}
+IsLinked (One k (Set bytes guard)) = Unit {0}
+IsLinked (Wrong error) = Unit {0}
+IsLinked command = ⊥

@@ -3,6 +3,8 @@ use Rattle.std.specs.Prelude.{[], ◌∷◌, ◌++◌, length, codes}
 use Rattle.std.specs.Fmt.{decimal, signed_decimal}
 use Rattle.std.specs.List.{flat_map}
 use Rattle.df_model.specs.Values.{Bytes}
+use Rattle.df_model.specs.declared.session.BadKind.{BadKind}
+use Rattle.df_model.specs.declared.session.BadKind.TheVariants as kinds
 use Rattle.df_model.specs.declared.reply.ErrorText.{ErrorText}
 use Rattle.df_model.specs.declared.reply.ErrorText.TheVariants as errors
 use Rattle.df_model.specs.declared.reply.Reply.{Reply}
@@ -47,3 +49,15 @@ encoding_step (Reply-F.Array replies) = codes "*" ++ decimal (length replies.ite
 
 abbrev pub encoding_of : Reply → Bytes
 encoding_of = fold-Reply Bytes encoding_step
+
+-- ---- bad input
+
+abbrev pub bad_text : BadKind → Bytes
+bad_text kinds.Start = codes "ERR Protocol error: bad start"
+bad_text kinds.Count = codes "ERR Protocol error: bad count"
+bad_text kinds.Length = codes "ERR Protocol error: bad length"
+bad_text kinds.End = codes "ERR Protocol error: bad end"
+
+-- the last line of a session whose input is bad
+abbrev pub protocol_error : BadKind → Bytes
+protocol_error kind = codes "-" ++ bad_text kind ++ crlf

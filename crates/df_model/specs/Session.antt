@@ -2,11 +2,12 @@
 use Rattle.std.specs.Prelude.{ℕ, nat_lt, List, [], ◌∷◌, ◌++◌, length, Bool, true, false, codes, if◌then◌else◌}
 use Rattle.df_model.specs.Words.{Words}
 use Rattle.df_model.specs.Spared.{all_of}
-use Rattle.df_model.specs.Reads.{Reading, reads}
+use Rattle.df_model.specs.Reads.{Reading, reads_linked}
 use Rattle.df_model.specs.Outcomes.{ok}
 use Rattle.df_model.specs.Meaning.{plain}
 use Rattle.df_model.specs.declared.command.Command.{Command}
 use Rattle.df_model.specs.declared.command.Command.TheVariants.{Plain, One, Many, Whole, Wrong}
+use Rattle.df_model.specs.declared.command.WholeOp.TheVariants.{Dbsize, Keys, Flushall, Flushdb, Save}
 use Rattle.df_model.specs.declared.command.Call.{Call}
 use Rattle.df_model.specs.declared.command.Call.TheVariants as calls
 use Rattle.df_model.specs.declared.reply.ErrorText.{ErrorText}
@@ -54,7 +55,7 @@ heard_as Reading.Unknown = Heard.Refused errors.Unknown
 heard_as (Reading.Arity name) = Heard.Refused (errors.Arity name)
 
 abbrev pub heard : Words → Heard
-heard words = heard_as (reads words)
+heard words = heard_as (reads_linked words)
 
 -- a command outside a transaction: one that needs no keyspace is answered at once
 abbrev pub given : Command → Given
@@ -76,6 +77,18 @@ ready_step (Heard.Refused error) = (Given.Replies (Error error), State.Ready)
 abbrev pub queued : Reply
 queued = Simple (codes "QUEUED")
 
+-- SAVE can't be part of a transaction
+abbrev pub saves : Command → Bool
+saves (Whole Save) = true
+saves (Whole Dbsize) = false
+saves (Whole (Keys pattern)) = false
+saves (Whole Flushall) = false
+saves (Whole Flushdb) = false
+saves (Plain op) = false
+saves (One key op) = false
+saves (Many op) = false
+saves (Wrong error) = false
+
 abbrev pub append : List Command → Bool → Command → Step
 append commands broken command =
     if nat_lt (length commands) MAX_QUEUED then (Given.Replies queued, State.Queueing (commands ++ command ∷ []) broken)
@@ -86,7 +99,7 @@ execute commands true = (Given.Replies (Error errors.Aborted), State.Ready)
 execute commands false = (Given.Calls (calls.Exec (all_of commands)), State.Ready)
 
 abbrev pub queueing_step : List Command → Bool → Heard → Step
-queueing_step commands broken (Heard.Spoken command) = append commands broken command
+queueing_step commands broken (Heard.Spoken command) = if saves command then (Given.Replies (Error errors.NotInside), State.Queueing commands true) else append commands broken command
 queueing_step commands broken (Heard.Controls Control.Multi) = (Given.Replies (Error errors.Nested), State.Queueing commands broken)
 queueing_step commands broken (Heard.Controls Control.Exec) = execute commands broken
 queueing_step commands broken (Heard.Controls Control.Discard) = (Given.Replies ok, State.Ready)

@@ -1,9 +1,10 @@
 //! Commands and calls, as plain data.
 //!
 //! A command names no key, one key, several keys, or the whole keyspace. What it means stands in
-//! specs/Meaning; how the words of a request spell it stands in specs/Reads.
+//! specs/Meaning; how the words of a request spell it stands in specs/Reads. A variant is its name in
+//! lower case with a capital; TYPE alone is `KindOf`. The fields are the further words in their order.
 
-use crate::{Bin, ErrorText, Reserved};
+use crate::{Bin, Bins, ErrorText, Pairs, Reserved};
 
 /// Which kind of value a key holds.
 #[derive(Clone, Copy, Debug, PartialEq, Eq)]
@@ -22,30 +23,116 @@ pub enum Guard {
     Xx,
 }
 
+/// On which side of an element LINSERT puts the new one.
+#[derive(Clone, Copy, Debug, PartialEq, Eq)]
+pub enum Beside {
+    Before,
+    After,
+}
+
+/// An end of a list.
+#[derive(Clone, Copy, Debug, PartialEq, Eq)]
+pub enum Side {
+    Left,
+    Right,
+}
+
 /// Commands that need no keyspace. They are answered at once and take no number.
 #[derive(Debug, Drop)]
 pub enum PlainOp {
     /// The message to send back, if there is one.
     Ping(Option<Bin>),
+    Echo(Bin),
+    /// The number of a database, which is 0.
+    Select(i64),
 }
 
 /// Commands of one key, which stands beside them in `Command::One`.
 #[derive(Debug, Drop)]
 pub enum OneOp {
+    KindOf,
     Get,
     Set(Bin, Guard),
+    Setnx(Bin),
+    Getset(Bin),
+    Getdel,
+    Append(Bin),
+    Strlen,
+    Getrange(i64, i64),
+    Setrange(i64, Bin),
+    Incr,
+    Decr,
+    Incrby(i64),
+    Decrby(i64),
+    Lpush(Bins),
+    Rpush(Bins),
+    Lpushx(Bins),
+    Rpushx(Bins),
+    Lpop(Option<i64>),
+    Rpop(Option<i64>),
+    Llen,
+    Lrange(i64, i64),
+    Lindex(i64),
+    Lset(i64, Bin),
+    Linsert(Beside, Bin, Bin),
+    Lrem(i64, Bin),
+    Ltrim(i64, i64),
+    Hset(Pairs),
+    Hmset(Pairs),
+    Hsetnx(Bin, Bin),
+    Hget(Bin),
+    Hmget(Bins),
+    Hdel(Bins),
+    Hlen,
+    Hexists(Bin),
+    Hstrlen(Bin),
+    Hkeys,
+    Hvals,
+    Hgetall,
+    Hincrby(Bin, i64),
+    Sadd(Bins),
+    Srem(Bins),
+    Scard,
+    Sismember(Bin),
+    Smismember(Bins),
+    Smembers,
 }
 
 /// Commands that name several keys, or may do so.
-#[derive(Drop)]
-pub enum ManyOp {}
+#[derive(Debug, Drop)]
+pub enum ManyOp {
+    Del(Bins),
+    Unlink(Bins),
+    Exists(Bins),
+    Mget(Bins),
+    Mset(Pairs),
+    Msetnx(Pairs),
+    Rename(Bin, Bin),
+    Renamenx(Bin, Bin),
+    Lmove(Bin, Bin, Side, Side),
+    Rpoplpush(Bin, Bin),
+    Smove(Bin, Bin, Bin),
+    Sinter(Bins),
+    Sunion(Bins),
+    Sdiff(Bins),
+    Sinterstore(Bin, Bins),
+    Sunionstore(Bin, Bins),
+    Sdiffstore(Bin, Bins),
+}
 
 /// Commands of the whole keyspace.
-#[derive(Drop)]
-pub enum WholeOp {}
+#[derive(Debug, Drop)]
+pub enum WholeOp {
+    Dbsize,
+    /// The pattern that a key has to match.
+    Keys(Bin),
+    Flushall,
+    Flushdb,
+    Save,
+}
 
 /// A command, once its words were read.
-#[derive(Drop)]
+#[derive(Debug, Drop)]
 pub enum Command {
     Plain(PlainOp),
     One(Bin, OneOp),
@@ -59,7 +146,7 @@ pub enum Command {
 pub type Commands = Reserved<Command>;
 
 /// What is run as one: a command, or the commands of an EXEC.
-#[derive(Drop)]
+#[derive(Debug, Drop)]
 pub enum Call {
     Single(Command),
     Exec(Commands),

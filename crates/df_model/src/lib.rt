@@ -16,7 +16,9 @@ mod session;
 mod tests;
 
 pub use bin::{Bin, NoMemory};
-pub use command::{Call, Command, Commands, Guard, Kind, ManyOp, OneOp, PlainOp, WholeOp};
+pub use command::{
+    Beside, Call, Command, Commands, Guard, Kind, ManyOp, OneOp, PlainOp, Side, WholeOp,
+};
 pub use keys::{KeyModes, Keys, Mode};
 pub use reply::{ErrorText, Replies, Reply};
 pub use reserved::{Bins, Pairs, Reserved};

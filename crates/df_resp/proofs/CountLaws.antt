@@ -1,9 +1,9 @@
 -- How many bytes of the input stand before the rest and before the buffer.
-use Rattle.std.proofs.Common.{◌≡◌, ℕ, ◌+◌, ◌-◌, ◌^◌, ◌<◌, ◌≤◌, List, [], ◌∷◌, ◌++◌, length, refl, sym, ap, subst, ◌∙◌, arith, length-append, min}
+use Rattle.std.proofs.Common.{◌≡◌, ℕ, ◌+◌, ◌-◌, ◌≤◌, List, [], ◌∷◌, ◌++◌, length, sym, ap, subst, arith, length-append}
 use Rattle.std.specs.List.{flat_map}
 use Rattle.df_model.specs.Values.{Bytes}
 use Rattle.df_model.specs.Words.{Words}
-use Rattle.df_model.specs.Framing.{Frame, sent, Splits}
+use Rattle.df_model.specs.Framing.{sent, Splits}
 use Rattle.df_resp.specs.Stream.{place_of, IsPlaced, Counts}
 use Rattle.df_resp.specs.Steps.{Steps}
 use Rattle.df_resp.specs.declared.input.Step.{Step}
@@ -13,11 +13,11 @@ no_longer_by : (front a b : Bytes) → a ≡ front ++ b → length b ≤ length 
 no_longer_by front a b e = subst (λ x. length b ≤ length x) (sym e) (omega (arith, length-append front b))
 
 -- what is left is no longer than what was
-no_longer : (a b : Bytes) (requests : List Words) → Splits a requests b → length b ≤ length a
+pub no_longer : (a b : Bytes) (requests : List Words) → Splits a requests b → length b ≤ length a
 no_longer a b requests s = no_longer_by (flat_map sent s.frames) a b s.whole
 
 -- first these bytes left the rest, then those
-counts_join : (before before' before'' : ℕ) (rest rest' rest'' : Bytes) → length rest' ≤ length rest → length rest'' ≤ length rest' → Counts before rest before' rest' → Counts before' rest' before'' rest'' → Counts before rest before'' rest''
+pub counts_join : (before before' before'' : ℕ) (rest rest' rest'' : Bytes) → length rest' ≤ length rest → length rest'' ≤ length rest' → Counts before rest before' rest' → Counts before' rest' before'' rest'' → Counts before rest before'' rest''
 counts_join before before' before'' rest rest' rest'' a b c d = omega (arith, a, b, c, d)
 
 step_no_longer : (step : Step) (old new buffer : Bytes) → Steps step old new buffer → length new ≤ length old

@@ -1,10 +1,9 @@
 -- The encodings of replies, each from its parts.
-use Rattle.std.proofs.Common.{◌≡◌, ◌++◌, length, codes, decimal, ap, sym, refl, ◌∙◌, subst, append_assoc}
+use Rattle.std.proofs.Common.{◌≡◌, ◌++◌, length, codes, decimal, ap, sym, ◌∙◌, append_assoc}
 use Rattle.df_model.specs.Values.{Bytes}
 use Rattle.df_model.specs.Replies.{crlf, text_of, encoding_step, encoding_of}
 use Rattle.df_model.specs.declared.reply.ErrorText.{ErrorText}
-use Rattle.df_model.specs.declared.reply.Reply.{Reply, fold-roll-Reply}
-use Rattle.df_model.specs.declared.reply.Reply.TheOpen.{Reply-F}
+use Rattle.df_model.specs.declared.reply.Reply.{fold-roll-Reply}
 use Rattle.df_model.specs.declared.reply.Reply.TheVariants.{Simple, Error, Bulk, NullBulk, rolls-Simple, rolls-Error, rolls-Bulk, rolls-NullBulk}
 
 pub simple_is : (text : Bytes) → encoding_of (Simple text) ≡ codes "+" ++ text ++ crlf

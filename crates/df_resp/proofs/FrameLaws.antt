@@ -1,24 +1,21 @@
 -- What reading a frame reads.
-use Rattle.std.proofs.Common.{◌≡◌, ℕ, zero, suc, ◌+◌, ◌-◌, ◌^◌, ◌<◌, ◌≤◌, ◌≢◌, ◌⊎◌, inl, inr, Bool, true, false, cond, ◌&&◌, List, [], ◌∷◌, ◌++◌, length, take, drop, refl, sym, ap, subst, ◌∙◌, arith, append_assoc, append-nil, length-append}
+use Rattle.std.proofs.Common.{◌≡◌, ℕ, ◌<◌, ◌≤◌, ◌⊎◌, inl, inr, true, false, cond, [], ◌∷◌, ◌++◌, length, refl, sym, ap, subst, ◌∙◌, arith, append_assoc, append-nil}
 use Rattle.std.specs.Prelude.{◌==◌, Option, Some, None}
-use Rattle.std.specs.List.{flat_map, AllByRecursion}
+use Rattle.std.specs.List.{flat_map}
 use Rattle.std.specs.Fmt.{decimal}
-use Rattle.std.proofs.lemmas.Fmt.{decimal_digit}
-use Rattle.std.proofs.lemmas.Grind.{common_steps}
 use Rattle.df_model.specs.Values.{Bytes}
 use Rattle.df_model.specs.Words.{Words}
-use Rattle.df_model.specs.Replies.{crlf}
-use Rattle.df_model.specs.Framing.{Frame, total_length, sent_word, sent_count, sent_request, sent, IsWord, IsFrame, IsRequest, MAX_WORDS, MAX_WORD, MAX_REQUEST}
-use Rattle.df_model.specs.BadInput.{IsUnended, Expects}
+use Rattle.df_model.specs.Framing.{Frame, sent_word, sent_count, sent_request, sent, IsFrame, IsRequest, MAX_WORDS}
+use Rattle.df_model.specs.BadInput.{Expects}
 use Rattle.df_model.specs.declared.session.BadKind.{BadKind}
 use Rattle.df_model.specs.declared.session.BadKind.TheVariants as kinds
-use Rattle.df_resp.specs.Scan.{Scan, and_then, fixed, some_bytes}
-use Rattle.df_resp.specs.Lines.{line, first_digit}
-use Rattle.df_resp.specs.Frames.{word_bytes, word, room, words, begins_null, head, behind_head, frame}
-use Rattle.df_resp.proofs.Languages.{Spelled, GoesOn, FirstBad, Reads, IsGiven, NeverBad, reads_given, reads_as, Some as SomeOf, Both, Behind, InEither, reads_both, reads_same}
+use Rattle.df_resp.specs.Scan.{Scan}
+use Rattle.df_resp.specs.Lines.{line}
+use Rattle.df_resp.specs.Frames.{word, words, head, behind_head, frame}
+use Rattle.df_resp.proofs.Languages.{Reads, IsGiven, NeverBad, reads_given, reads_as, Some as SomeOf, Both, InEither, reads_both, reads_same}
 use Rattle.df_resp.proofs.WordLaws.{ExpectsWord, zero_digit, AreWords, ExpectsWords, some_words, reads_words}
 use Rattle.df_resp.proofs.HeadLaws.{either, none_at, some_at, IsHead, reads_head}
-use Rattle.df_resp.proofs.LineLaws.{chosen, IsText, ExpectsText, reads_fixed, AreSome, reads_some, IsLine, ExpectsLine, reads_line}
+use Rattle.df_resp.proofs.LineLaws.{IsLine, ExpectsLine}
 
 -- ---- what stands behind a frame's line
 

@@ -6,7 +6,6 @@ use Rattle.std.proofs.lemmas.List.Concat.{flat_map-append}
 use Rattle.df_model.specs.Values.{Bytes}
 use Rattle.df_model.specs.Words.{Words}
 use Rattle.df_model.specs.Replies.{crlf}
-use Rattle.std.proofs.lemmas.Grind.{common_steps}
 use Rattle.df_model.specs.Framing.{Frame, sent, sent_word, sent_count, IsFrame, words_of, Splits, BeginsWhole, IsPartial, Framed, CanGoOn, IsBad}
 use Rattle.df_model.proofs.FramingLaws.{no_split, splits_join, splits_more}
 use Rattle.df_resp.specs.Laws.{EveryListIsFramed}

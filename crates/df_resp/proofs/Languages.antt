@@ -1,5 +1,5 @@
 -- What a scanner reads, and how two scanners one behind another read.
-use Rattle.std.proofs.Common.{◌≡◌, ℕ, ◌+◌, ◌<◌, ◌⊎◌, inl, inr, List, [], ◌∷◌, ◌++◌, length, refl, sym, ap, subst, ◌∙◌, arith, append_assoc, append-nil, length-append}
+use Rattle.std.proofs.Common.{◌≡◌, ℕ, ◌<◌, ◌⊎◌, inl, inr, [], ◌∷◌, ◌++◌, length, refl, sym, ap, ◌∙◌, arith, append_assoc, length-append}
 use Rattle.df_model.specs.Values.{Bytes}
 use Rattle.df_model.specs.declared.session.BadKind.{BadKind}
 use Rattle.df_resp.specs.Scan.{Scan, and_then}

@@ -1,5 +1,5 @@
 -- What reading a fixed text, so many bytes, and a line with a number reads.
-use Rattle.std.proofs.Common.{◌≡◌, ℕ, suc, ◌+◌, ◌-◌, ◌*◌, ◌/◌, ◌%◌, ◌^◌, ◌<◌, ◌≤◌, ◌≢◌, ◌⊎◌, inl, inr, Bool, true, false, cond, not, ◌&&◌, List, [], ◌∷◌, ◌++◌, length, take, drop, refl, sym, ap, subst, ◌∙◌, arith, append_assoc, length-append, length-drop}
+use Rattle.std.proofs.Common.{◌≡◌, ℕ, suc, ◌+◌, ◌-◌, ◌*◌, ◌/◌, ◌%◌, ◌^◌, ◌<◌, ◌≤◌, ◌≢◌, ◌⊎◌, inl, inr, Bool, true, false, cond, not, ◌&&◌, [], ◌∷◌, ◌++◌, length, take, drop, refl, sym, ap, subst, ◌∙◌, arith, append_assoc, length-append}
 use Rattle.std.specs.Prelude.{nat_le, nat_lt, ◌==◌, replicate}
 use Rattle.std.specs.Fmt.{decimal}
 use Rattle.std.proofs.lemmas.Fmt.{decimal_by_steps, decimal_step, decimal_digit}
@@ -8,9 +8,9 @@ use Rattle.df_model.specs.Values.{Bytes}
 use Rattle.df_model.specs.BadInput.{IsUnended}
 use Rattle.df_model.specs.declared.session.BadKind.{BadKind}
 use Rattle.df_model.specs.declared.session.BadKind.TheVariants as kinds
-use Rattle.df_resp.specs.Scan.{Scan, and_then, fixed, some_bytes}
+use Rattle.df_resp.specs.Scan.{Scan, fixed, some_bytes}
 use Rattle.df_resp.specs.Lines.{is_digit, line_feed, digits, first_digit, line}
-use Rattle.df_resp.proofs.Languages.{Spelled, GoesOn, FirstBad, Reads, same_bad, same_whole, IsGiven, NeverBad, reads_given, reads_as, Some, Both, Behind, InEither, reads_both}
+use Rattle.df_resp.proofs.Languages.{Spelled, GoesOn, FirstBad, Reads, same_bad, same_whole, IsGiven, NeverBad, reads_given, reads_as, Both, InEither, reads_both}
 
 -- which way a test went
 pub chosen : {A : Type 0} (t : Bool) (x y z : A) → cond t x y ≡ z → ((t ≡ true) × (x ≡ z)) ⊎ ((t ≡ false) × (y ≡ z))

@@ -1,5 +1,5 @@
 -- A step after steps that gave nothing.
-use Rattle.std.proofs.Common.{◌≡◌, ℕ, ◌+◌, ◌-◌, ◌<◌, List, [], length, drop, sym, ap, subst, ◌∙◌, arith, length-drop}
+use Rattle.std.proofs.Common.{◌≡◌, ℕ, ◌+◌, ◌-◌, ◌<◌, [], length, drop, sym, subst, ◌∙◌, arith, length-drop}
 use Rattle.df_model.specs.Values.{Bytes}
 use Rattle.df_model.specs.Framing.{Splits, IsPartial, IsBad, BeginsWhole}
 use Rattle.df_model.specs.BadInput.{BadAt}

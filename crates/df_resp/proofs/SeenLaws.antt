@@ -1,6 +1,6 @@
 -- What was seen at the front of bytes.
-use Rattle.std.proofs.Common.{◌≡◌, ℕ, ◌+◌, ◌-◌, ◌<◌, ◌≤◌, true, false, cond, List, [], ◌∷◌, length, take, drop, refl, sym, ap, subst, ◌∙◌, arith, length-drop}
-use Rattle.std.specs.Prelude.{nat_lt, Some, None}
+use Rattle.std.proofs.Common.{◌≡◌, ℕ, ◌+◌, ◌-◌, ◌<◌, ◌≤◌, false, length, take, drop, refl, sym, ap, ◌∙◌, arith, length-drop}
+use Rattle.std.specs.Prelude.{nat_lt, Some}
 use Rattle.std.proofs.lemmas.Grind.{common_steps}
 use Rattle.df_model.specs.Values.{Bytes}
 use Rattle.df_model.specs.Replies.{crlf}
@@ -8,16 +8,11 @@ use Rattle.df_model.specs.Framing.{MAX_WORDS}
 use Rattle.df_model.specs.declared.session.BadKind.TheVariants as kinds
 use Rattle.df_resp.specs.Scan.{Scan, and_then, fixed, some_bytes}
 use Rattle.df_resp.specs.Lines.{line}
-use Rattle.df_resp.specs.Frames.{begins_null, head, word_bytes}
+use Rattle.df_resp.specs.Frames.{begins_null, word_bytes}
 use Rattle.df_resp.specs.Seen.{SeesNumber, SeesFixed, SeesHead, SeesWord}
-use Rattle.df_resp.proofs.HeadLaws.{head_null, head_line}
+use Rattle.df_resp.proofs.HeadLaws.{head_line}
 use Rattle.df_resp.specs.declared.front.Seen.{Seen}
 use Rattle.df_resp.specs.declared.front.Seen.TheVariants.{More, Bad, Whole}
-
-pub sees_null : (seen : Seen) (bytes : Bytes) → begins_null bytes ≡ true → SeesFixed seen kinds.Count (49 ∷ 13 ∷ 10 ∷ []) 2 0 bytes → SeesHead seen bytes
-sees_null More bytes e s = head_null bytes e ∙ ap (λ x. and_then x (λ _ rest. Scan.Whole None rest)) s
-sees_null (Bad kind at) bytes e s = (s.0, head_null bytes e ∙ ap (λ x. and_then x (λ _ rest. Scan.Whole None rest)) s.1)
-sees_null (Whole n used) bytes e s = (omega (arith, s.1), s.2, (None, s.0, head_null bytes e ∙ ap (λ x. and_then x (λ _ rest. Scan.Whole None rest)) s.3))
 
 pub sees_line : (seen : Seen) (bytes : Bytes) → begins_null bytes ≡ false → SeesNumber seen bytes (line 42 kinds.Count MAX_WORDS bytes) → SeesHead seen bytes
 sees_line More bytes e s = head_line bytes e ∙ ap (λ x. and_then x (λ n rest. Scan.Whole (Some n) rest)) s

@@ -1,5 +1,5 @@
 -- Bytes that were added at the end.
-use Rattle.std.specs.Prelude.{◌≡◌, ℕ, List, ◌++◌}
+use Rattle.std.specs.Prelude.{◌≡◌, ◌++◌}
 use Rattle.df_model.specs.Values.{Bytes}
 
 -- the new bytes begin with the old ones

@@ -1,5 +1,5 @@
 -- One step of taking a request from the stream.
-use Rattle.std.specs.Prelude.{◌≡◌, ◌<◌, List, [], ◌∷◌, length, drop}
+use Rattle.std.specs.Prelude.{◌≡◌, ◌<◌, [], ◌∷◌, length, drop}
 use Rattle.df_model.specs.Values.{Bytes}
 use Rattle.df_model.specs.Framing.{Splits}
 use Rattle.df_resp.specs.Scan.{Scan}

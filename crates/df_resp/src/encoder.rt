@@ -4,11 +4,11 @@
 //! so that no `Reply` is made of them.
 
 ghost use Rattle.std.specs.Prelude.{◌≡◌, ◌++◌, ◌≤◌, length, decimal, codes, OnOk, OnErr};
-ghost use Rattle.df_model.specs.Replies.{encoding_of, crlf, text_of};
+ghost use Rattle.df_model.specs.Replies.{encoding_of, crlf, text_of, protocol_error};
 ghost use Rattle.df_model.specs.declared.reply.Reply.TheVariants.{Simple, Error as ErrorReply, Bulk, NullBulk};
 ghost use Rattle.df_resp.specs.Appended.{GrowsBy};
 
-use df_model::{ErrorText, NoMemory, Reply};
+use df_model::{BadKind, ErrorText, NoMemory, Reply};
 use itoa::Buffer;
 
 /// More bytes than a line's mark, a number and two line ends take together.
@@ -73,6 +73,26 @@ pub fn encode_null(to: &mut Vec<u8>) -> Result<(), NoMemory>
 {
     to.extend_from_slice(b"$-1\r\n")?;
     Ok(())
+}
+
+/// Appends the last line of a session whose input is bad.
+pub fn encode_protocol_error(kind: BadKind, to: &mut Vec<u8>) -> Result<(), NoMemory>
+    ensures ok { OnOk result (to.new.items ≡ to.old.items ++ protocol_error kind) }
+    ensures err { OnErr result (to.new.items ≡ to.old.items) }
+{
+    to.extend_from_slice(protocol_line(kind))?;
+    Ok(())
+}
+
+fn protocol_line(kind: BadKind) -> &'static [u8]
+    ensures { result.now ≡ protocol_error kind }
+{
+    match kind {
+        BadKind::Start => b"-ERR Protocol error: bad start\r\n",
+        BadKind::Count => b"-ERR Protocol error: bad count\r\n",
+        BadKind::Length => b"-ERR Protocol error: bad length\r\n",
+        BadKind::End => b"-ERR Protocol error: bad end\r\n",
+    }
 }
 
 fn push_reply(reply: &Reply, to: &mut Vec<u8>) -> Result<(), NoMemory>

@@ -2,7 +2,7 @@
 //!
 //! A step takes a frame's line or one word. Each leaves the buffer as soon as it is whole: a word goes
 //! to the request's words, as a slice of what was read. So no byte is looked at twice but those of one
-//! unfinished line, and of a word that isn't whole yet only its line and its length are looked at again.
+//! unfinished line; while a long word comes, its length line is read again and its bytes aren't.
 
 ghost use Rattle.std.specs.Prelude.{◌≡◌, ◌+◌, ◌-◌, ◌<◌, ◌≤◌, [], ◌∷◌, ◌++◌, length, take, drop, IfOk, OnOk, OnErr};
 ghost use Rattle.df_resp.specs.Stream.{IsSound, IsPlaced, Counts, rest_of};

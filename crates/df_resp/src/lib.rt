@@ -15,5 +15,7 @@ mod reader;
 #[cfg(test)]
 mod tests;
 
-pub use encoder::{encode, encode_bulk, encode_error, encode_null, encode_simple};
+pub use encoder::{
+    encode, encode_bulk, encode_error, encode_null, encode_protocol_error, encode_simple,
+};
 pub use reader::{Next, Reader};

@@ -19,7 +19,7 @@ use std::marker::Model;
 
 /// What a reader gives.
 pub enum Next {
-    /// The words of a request, as slices of what was fed: no byte is copied for them.
+    /// The words of a request, as slices of the reader's buffer: no byte is copied for them.
     Words(Vec<Bytes>),
     /// Nothing more is whole. To call again before a piece is fed gives the same answer.
     NeedMore,

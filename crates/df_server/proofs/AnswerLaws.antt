@@ -9,7 +9,7 @@ use Rattle.std.specs.FinMap.{get-insert, get-remove, same_map, slice_cmp-IsAntis
 use Rattle.df_model.specs.Values.{Bytes, Value}
 use Rattle.df_model.specs.Words.{Words}
 use Rattle.df_model.specs.Keyspace.{Keyspace, held, with_held}
-use Rattle.df_model.specs.Reads.{Reading, reads}
+use Rattle.df_model.specs.Reads.{Reading, reads_linked}
 use Rattle.df_model.specs.Outcomes.{Outcome, Change, ok, settled}
 use Rattle.df_model.specs.Meaning.{meaning}
 use Rattle.df_model.specs.Meaning.Strings as strings
@@ -19,6 +19,7 @@ use Rattle.df_model.proofs.LocalityLaws.{reads_one, writes_one}
 use Rattle.df_model.specs.declared.command.OneOp.TheVariants.{Get, Set}
 use Rattle.df_model.specs.declared.command.Guard.{Guard}
 use Rattle.df_model.specs.declared.command.Guard.TheVariants.{Always, Nx, Xx}
+use Rattle.df_model.specs.declared.command.WholeOp.TheVariants as wholes
 use Rattle.df_model.specs.declared.command.Command.{Command}
 use Rattle.df_model.specs.declared.command.Command.TheVariants.{Plain, One, Many, Whole, Wrong}
 use Rattle.df_model.specs.declared.reply.ErrorText.TheVariants as errors
@@ -32,13 +33,17 @@ use Rattle.df_server.specs.Responses.{response, Gives, guard_allows}
 ran : (command : Command) (K after : Keyspace) (old new : Bytes) → Gives (meaning command K) after old new → Replied (given command) K after old new
 ran (Plain op) K after old new g = record { answer = (meaning (Plain op) K).0; answers = (inl refl, g.leaves); added = g.adds }
 ran (One key op) K after old new g = record { answer = (meaning (One key op) K).0; answers = inl (true ∷ [], (after, ap (λ m. ((meaning (One key op) K).0, m)) (sym g.leaves), refl)); added = g.adds }
-ran (Many op) K after old new g = elim op [ ]
-ran (Whole op) K after old new g = elim op [ ]
+ran (Many op) K after old new g = record { answer = (meaning (Many op) K).0; answers = inl (true ∷ [], (after, ap (λ m. ((meaning (Many op) K).0, m)) (sym g.leaves), refl)); added = g.adds }
+ran (Whole wholes.Dbsize) K after old new g = record { answer = (meaning (Whole wholes.Dbsize) K).0; answers = inl (true ∷ [], (after, ap (λ m. ((meaning (Whole wholes.Dbsize) K).0, m)) (sym g.leaves), refl)); added = g.adds }
+ran (Whole (wholes.Keys pattern)) K after old new g = record { answer = (meaning (Whole (wholes.Keys pattern)) K).0; answers = inl (true ∷ [], (after, ap (λ m. ((meaning (Whole (wholes.Keys pattern)) K).0, m)) (sym g.leaves), refl)); added = g.adds }
+ran (Whole wholes.Flushall) K after old new g = record { answer = ok; answers = inl (true ∷ [], (after, ap (λ m. (ok, m)) (sym g.leaves), refl)); added = g.adds }
+ran (Whole wholes.Flushdb) K after old new g = record { answer = ok; answers = inl (true ∷ [], (after, ap (λ m. (ok, m)) (sym g.leaves), refl)); added = g.adds }
+ran (Whole wholes.Save) K after old new g = record { answer = ok; answers = inl (false ∷ [], (after, (g.leaves, inl refl), refl)); added = g.adds }
 ran (Wrong error) K after old new g = record { answer = Error error; answers = (inl refl, g.leaves); added = g.adds }
 
 -- what a request is answered where memory suffices
-pub answered : (words : Words) (K after : Keyspace) (old new : Bytes) → Gives (response (reads words) K) after old new → Replied (session_step State.Ready words).0 K after old new
-answered words K after old new g = by (reads words) g
+pub answered : (words : Words) (K after : Keyspace) (old new : Bytes) → Gives (response (reads_linked words) K) after old new → Replied (session_step State.Ready words).0 K after old new
+answered words K after old new g = by (reads_linked words) g
   where
     by : (r : Reading) → Gives (response r K) after old new → Replied (ready_step (heard_as r)).0 K after old new
     by (Reading.Runs command) g = ran command K after old new g
@@ -72,8 +77,8 @@ set_row_keeps v Xx None e = refl
 set_row_keeps v Xx (Some x) e = cc
 
 -- GET adds what its row says and leaves the keyspace
-pub get_gives : (K : Keyspace) (k old new : Bytes) → new ≡ old ++ encoding_of (strings.get (held K k)) → Gives (meaning (One k Get) K) K old new
-get_gives K k old new added = subst (λ m. Gives m K old new) (sym (reads_one k strings.get K)) (record { leaves = refl; adds = added })
+pub get_gives : (K : Keyspace) (k old new : Bytes) → new ≡ old ++ encoding_of (strings.looks strings.get (held K k)) → Gives (meaning (One k Get) K) K old new
+get_gives K k old new added = subst (λ m. Gives m K old new) (sym (reads_one k (strings.looks strings.get) K)) (record { leaves = refl; adds = added })
 
 set_means : (K : Keyspace) (k v : Bytes) (guard : Guard) (o : Outcome) → strings.set v guard (held K k) ≡ o → meaning (One k (Set v guard)) K ≡ (o.0, with_held K k (settled o.1 (held K k)))
 set_means K k v guard o e = writes_one k (strings.set v guard) K ∙ ap (λ o. (o.0, with_held K k (settled o.1 (held K k)))) e

@@ -4,26 +4,29 @@ use Rattle.df_model.specs.Values.{Bytes}
 use Rattle.df_model.specs.Keyspace.{Keyspace, no_keys}
 use Rattle.df_model.specs.Words.{Words}
 use Rattle.df_model.specs.Framing.{Framed}
-use Rattle.df_model.specs.Output.{IsAtLast, MayStop}
+use Rattle.df_model.specs.Output.{IsAtLast, MayStop, farewell}
 use Rattle.df_model.specs.declared.session.Why.{Why}
 use Rattle.df_model.proofs.FramingLaws.{splits_join}
 use Rattle.df_server.specs.Serving.{Served}
 use Rattle.df_server.specs.Pipe.{AllAnswered, Ended}
+use Rattle.df_resp.specs.Stream.{Stream}
 use Rattle.df_resp.proofs.FramedLaws.{every_list_is_framed}
 use Rattle.df_server.proofs.ServedLaws.{numbered_ordered, output_done, output_stopped}
 
 -- behind the last request
-pub ended_done : (end : Why) (bytes out rest : Bytes) (K : Keyspace) → AllAnswered bytes out K rest → IsAtLast end → Ended end bytes out
-ended_done end bytes out rest K a last = record {
-  requests = a.served.requests;
-  rest = rest;
-  framed = record { splits = a.served.splits; no_whole = a.no_whole };
-  items = a.served.items;
-  legal = (K, a.served.leads);
-  ordered = numbered_ordered a.served.items a.served.numbered;
-  numbered = a.served.numbered;
-  output = output_done no_keys K bytes out rest end a.served last;
-}
+pub ended_done : (end : Why) (bytes out : Bytes) (stream : Stream) (K : Keyspace) → AllAnswered bytes out K stream → IsAtLast end → Ended end bytes (out ++ farewell end)
+ended_done end bytes out stream K a last =
+    let s : Served no_keys bytes out K stream.rest = a.reached.served in
+    record {
+      requests = s.requests;
+      rest = stream.rest;
+      framed = record { splits = s.splits; no_whole = a.no_whole };
+      items = s.items;
+      legal = (K, s.leads);
+      ordered = numbered_ordered s.items s.numbered;
+      numbered = s.numbered;
+      output = output_done no_keys K bytes out stream.rest end s last;
+    }
 
 -- anywhere: the requests of the rest are left
 pub ended_stopped : (end : Why) (bytes out rest : Bytes) (K : Keyspace) → Served no_keys bytes out K rest → MayStop end → Ended end bytes out

@@ -9,12 +9,13 @@ use Rattle.df_model.specs.Reads.{Reading}
 use Rattle.df_model.specs.Replies.{encoding_of}
 use Rattle.df_model.specs.Framing.{Splits}
 use Rattle.df_model.specs.Session.{State, Given, heard_as, ready_step, session_step}
-use Rattle.df_model.specs.Reads.{reads}
+use Rattle.df_model.specs.Reads.{reads_linked}
 use Rattle.df_model.specs.Calls.{Allowed}
 use Rattle.df_model.specs.History.{Item, Leads, IsOrdered, RisesFrom, HasSeen, SeesItsOwn}
-use Rattle.df_model.specs.Output.{IsAtLast, MayStop, Walk, SessionOutput}
+use Rattle.df_model.specs.Output.{IsAtLast, MayStop, Walk, SessionOutput, farewell}
 use Rattle.df_model.specs.declared.command.Call.{Call}
 use Rattle.df_model.specs.declared.session.Why.{Why}
+use Rattle.df_model.specs.declared.session.Why.TheVariants as ends
 use Rattle.df_model.specs.declared.reply.ErrorText.TheVariants as errors
 use Rattle.df_model.specs.declared.reply.Reply.{Reply}
 use Rattle.df_model.specs.declared.reply.Reply.TheVariants.{Error}
@@ -32,7 +33,7 @@ reading_stays_ready (Reading.Arity name) = refl
 
 -- no control name is linked, so no request leaves the first state
 pub stays_ready : (words : Words) → (session_step State.Ready words).1 ≡ State.Ready
-stays_ready words = reading_stays_ready (reads words)
+stays_ready words = reading_stays_ready (reads_linked words)
 
 step_is : (words : Words) (given : Given) → (session_step State.Ready words).0 ≡ given → session_step State.Ready words ≡ (given, State.Ready)
 step_is words given is = ap (λ x. (x, (session_step State.Ready words).1)) is ∙ ap (λ x. (given, x)) (stays_ready words)
@@ -182,19 +183,33 @@ numbered_ordered items n = record { rises = rises 0 items n; sees_its_own = all_
 
 -- ---- the output
 
-ends_with : (K0 K : Keyspace) (bytes out rest : Bytes) (end : Why) (more : List Words) (s : Served K0 bytes out K rest) → Walk end State.Ready more [] [] → SessionOutput (s.requests ++ more) end s.items out
+ends_with : (K0 K : Keyspace) (bytes out rest : Bytes) (end : Why) (more : List Words) (s : Served K0 bytes out K rest) → Walk end State.Ready more [] [] → SessionOutput (s.requests ++ more) end s.items (out ++ farewell end)
 ends_with K0 K bytes out rest end more s walk = record {
   replies = s.replies;
   walk = subst (λ i. Walk end State.Ready (s.requests ++ more) i s.replies) (append-nil s.items)
       (subst (λ p. Walk end State.Ready (s.requests ++ more) (s.items ++ []) p) (append-nil s.replies) (s.walks end more [] [] walk));
-  out_is = s.out_is;
+  out_is = ap (λ x. x ++ farewell end) s.out_is;
 }
 
 -- a session that ends behind its last request
-pub output_done : (K0 K : Keyspace) (bytes out rest : Bytes) (end : Why) (s : Served K0 bytes out K rest) → IsAtLast end → SessionOutput s.requests end s.items out
+pub output_done : (K0 K : Keyspace) (bytes out rest : Bytes) (end : Why) (s : Served K0 bytes out K rest) → IsAtLast end → SessionOutput s.requests end s.items (out ++ farewell end)
 output_done K0 K bytes out rest end s last =
-    subst (λ r. SessionOutput r end s.items out) (append-nil s.requests) (ends_with K0 K bytes out rest end [] s (Walk.done State.Ready last))
+    subst (λ r. SessionOutput r end s.items (out ++ farewell end)) (append-nil s.requests) (ends_with K0 K bytes out rest end [] s (Walk.done State.Ready last))
+
+no_farewell : (end : Why) → MayStop end → farewell end ≡ []
+no_farewell ends.InputEnd may = absurd may
+no_farewell ends.Quit may = absurd may
+no_farewell ends.Asked may = absurd may
+no_farewell ends.Stopped may = refl
+no_farewell (ends.Protocol kind at) may = absurd may
+no_farewell ends.ReadFault may = refl
+no_farewell ends.WriteFault may = refl
+no_farewell ends.TooMany may = absurd may
+no_farewell ends.Spent may = refl
+no_farewell ends.NoMemory may = refl
 
 -- a session that ends before these requests
 pub output_stopped : (K0 K : Keyspace) (bytes out rest : Bytes) (end : Why) (more : List Words) (s : Served K0 bytes out K rest) → MayStop end → SessionOutput (s.requests ++ more) end s.items out
-output_stopped K0 K bytes out rest end more s may = ends_with K0 K bytes out rest end more s (Walk.stopped State.Ready more may)
+output_stopped K0 K bytes out rest end more s may =
+    subst (SessionOutput (s.requests ++ more) end s.items) (ap (λ x. out ++ x) (no_farewell end may) ∙ append-nil out)
+    (ends_with K0 K bytes out rest end more s (Walk.stopped State.Ready more may))

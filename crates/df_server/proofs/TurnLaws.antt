@@ -1,13 +1,15 @@
 -- A turn of a session: what was answered is written.
-use Rattle.std.proofs.Common.{◌≡◌, [], ◌++◌, refl, sym, ap, subst, ◌∙◌, append_assoc, append-nil}
+use Rattle.std.proofs.Common.{◌≡◌, inl, inr, [], ◌++◌, refl, sym, ap, subst, ◌∙◌, append_assoc, append-nil}
 use Rattle.std.specs.Prelude.{OnOk}
 use Rattle.std.specs.Io.KnownBytes.{Appends}
 use Rattle.df_model.specs.Values.{Bytes}
-use Rattle.df_model.specs.Keyspace.{Keyspace, no_keys}
+use Rattle.df_model.specs.Keyspace.{Keyspace}
 use Rattle.df_model.specs.Output.{MayStop}
+use Rattle.df_model.specs.declared.session.Why.{Why}
+use Rattle.df_model.specs.declared.session.Why.TheVariants as whys
+use Rattle.df_resp.specs.Stream.{Stream}
 use Rattle.df_outside.specs.Streams.{Outflow}
-use Rattle.df_server.specs.Serving.{Served}
-use Rattle.df_server.specs.Promise.{WroteFront}
+use Rattle.df_server.specs.Promise.{WroteFront, CutsOff, Shows}
 use Rattle.df_server.specs.Pipe.{Answering, HasWritten, Ended, why_of, after_of, Stops, StopsHere, Turns}
 use Rattle.df_server.specs.declared.pipe.Answered.{Answered}
 use Rattle.df_server.specs.declared.pipe.Answered.TheVariants as answered
@@ -17,23 +19,38 @@ use Rattle.df_server.specs.declared.pipe.Written.{Written}
 use Rattle.df_server.specs.declared.pipe.Written.TheVariants as written
 use Rattle.df_server.proofs.EndLaws.{ended_done, ended_stopped}
 
--- however far the requests were answered, the output is that of some bytes' requests
-some_served : (a : Answered) (bytes out rest : Bytes) (K : Keyspace) → Answering a bytes out K rest → (behind : Bytes) × Served no_keys bytes out K behind
-some_served answered.All bytes out rest K f = (rest, f.0.served)
-some_served (answered.Bad kind at) bytes out rest K f = (rest, f.0.served)
-some_served answered.NoMemory bytes out rest K f = f
+-- where the output is cut off: it is that of the session's end, or of its bad input
+record Showing (end : End) (bytes out : Bytes) : Type 0 where
+  shown : Why
+  shows : Shows (why_of end) bytes shown
+  ended : Ended shown bytes out
+
+showing : (end : End) (a : Answered) (bytes out : Bytes) (K : Keyspace) (stream : Stream) → MayStop (why_of end) → CutsOff (why_of end) → Answering a bytes out K stream → Showing end bytes out
+showing end answered.All bytes out K stream may cuts f =
+    record { shown = why_of end; shows = inl refl; ended = ended_stopped (why_of end) bytes out stream.rest K f.0.reached.served may }
+showing end (answered.Bad kind at) bytes out K stream may cuts f =
+    let bad : Why = whys.Protocol kind f.bad.place in
+    record {
+      shown = bad;
+      shows = inr (cuts, (kind, (f.bad.place, (f.bad.bad, refl))));
+      ended = subst (Ended bad bytes) (sym f.out_is) (ended_done bad bytes f.replies stream K f.answered tt);
+    }
+showing end answered.NoMemory bytes out K stream may cuts f =
+    record { shown = why_of end; shows = inl refl; ended = ended_stopped (why_of end) bytes out f.0 K f.1 may }
 
 -- a write that left something ends the session
-cut_off : (end : End) (a : Answered) (bytes sent out rest : Bytes) (K : Keyspace) (before now : Outflow) → MayStop (why_of end) → Answering a bytes (sent ++ out) K rest
+cut_off : (end : End) (a : Answered) (bytes sent out : Bytes) (stream : Stream) (K : Keyspace) (before now : Outflow) → MayStop (why_of end) → CutsOff (why_of end) → Answering a bytes (sent ++ out) K stream
     → (w : WroteFront out before now) → Stops end bytes w.unsent before now → StopsHere end bytes sent before now
-cut_off end a bytes sent out rest K before now may f w stops =
-    let s : (behind : Bytes) × Served no_keys bytes (sent ++ out) K behind = some_served a bytes (sent ++ out) rest K f in
+cut_off end a bytes sent out stream K before now may cuts f w stops =
+    let s : Showing end bytes (sent ++ out) = showing end a bytes (sent ++ out) K stream may cuts f in
     let out_is : sent ++ out ≡ (sent ++ w.wrote) ++ w.unsent = ap (λ x. sent ++ x) w.front ∙ sym (append_assoc sent w.wrote w.unsent) in
     record {
       wrote = w.wrote;
       unsent = w.unsent;
       written = w.written;
-      ended = subst (Ended (why_of end) bytes) out_is (ended_stopped (why_of end) bytes (sent ++ out) s.0 K s.1 may);
+      shown = s.shown;
+      shows = s.shows;
+      ended = subst (Ended s.shown bytes) out_is s.ended;
       stops = stops;
     }
 
@@ -43,22 +60,25 @@ written_out end bytes sent out before now w ended stops = record {
   wrote = out;
   unsent = [];
   written = w;
+  shown = why_of end;
+  shows = inl refl;
   ended = subst (Ended (why_of end) bytes) (sym (append-nil (sent ++ out))) ended;
   stops = stops;
 }
 
-pub turn_law : (a : Answered) (p : Written) (bytes sent out rest : Bytes) (K : Keyspace) (before now : Outflow) → Answering a bytes (sent ++ out) K rest → HasWritten p out before now → Turns (after_of a p) bytes sent K rest before now
-turn_law answered.All written.Whole bytes sent out rest K before now f w = record { wrote = out; written = w.0; faults = w.1; answered = f.0; can_go_on = f.1 }
-turn_law (answered.Bad kind at) written.Whole bytes sent out rest K before now f w =
-    written_out (ends.Bad kind at) bytes sent out before now w.0 (ended_done (why_of (ends.Bad kind at)) bytes (sent ++ out) rest K f.0 tt) (f.1, refl)
-turn_law answered.NoMemory written.Whole bytes sent out rest K before now f w =
+pub turn_law : (a : Answered) (p : Written) (bytes sent out : Bytes) (stream : Stream) (K : Keyspace) (before now : Outflow) → Answering a bytes (sent ++ out) K stream → HasWritten p out before now → Turns (after_of a p) bytes sent K stream before now
+turn_law answered.All written.Whole bytes sent out stream K before now f w = record { wrote = out; written = w.0; faults = w.1; answered = f.0; can_go_on = f.1 }
+turn_law (answered.Bad kind at) written.Whole bytes sent out stream K before now f w =
+    let bad : Why = whys.Protocol kind at in
+    written_out (ends.Bad kind at) bytes sent out before now w.0 (subst (Ended bad bytes) (sym f.out_is) (ended_done bad bytes f.replies stream K f.answered tt)) (f.bad, refl)
+turn_law answered.NoMemory written.Whole bytes sent out stream K before now f w =
     written_out ends.NoMemory bytes sent out before now w.0 (ended_stopped (why_of ends.NoMemory) bytes (sent ++ out) f.0 K f.1 tt) tt
-turn_law answered.All written.Failed bytes sent out rest K before now f w = cut_off ends.WriteFault answered.All bytes sent out rest K before now tt f w.0 w.1
-turn_law (answered.Bad kind at) written.Failed bytes sent out rest K before now f w = cut_off ends.WriteFault (answered.Bad kind at) bytes sent out rest K before now tt f w.0 w.1
-turn_law answered.NoMemory written.Failed bytes sent out rest K before now f w = cut_off ends.WriteFault answered.NoMemory bytes sent out rest K before now tt f w.0 w.1
-turn_law answered.All written.NoMemory bytes sent out rest K before now f w = cut_off ends.NoMemory answered.All bytes sent out rest K before now tt f w tt
-turn_law (answered.Bad kind at) written.NoMemory bytes sent out rest K before now f w = cut_off ends.NoMemory (answered.Bad kind at) bytes sent out rest K before now tt f w tt
-turn_law answered.NoMemory written.NoMemory bytes sent out rest K before now f w = cut_off ends.NoMemory answered.NoMemory bytes sent out rest K before now tt f w tt
+turn_law answered.All written.Failed bytes sent out stream K before now f w = cut_off ends.WriteFault answered.All bytes sent out stream K before now tt tt f w.0 w.1
+turn_law (answered.Bad kind at) written.Failed bytes sent out stream K before now f w = cut_off ends.WriteFault (answered.Bad kind at) bytes sent out stream K before now tt tt f w.0 w.1
+turn_law answered.NoMemory written.Failed bytes sent out stream K before now f w = cut_off ends.WriteFault answered.NoMemory bytes sent out stream K before now tt tt f w.0 w.1
+turn_law answered.All written.NoMemory bytes sent out stream K before now f w = cut_off ends.NoMemory answered.All bytes sent out stream K before now tt tt f w tt
+turn_law (answered.Bad kind at) written.NoMemory bytes sent out stream K before now f w = cut_off ends.NoMemory (answered.Bad kind at) bytes sent out stream K before now tt tt f w tt
+turn_law answered.NoMemory written.NoMemory bytes sent out stream K before now f w = cut_off ends.NoMemory answered.NoMemory bytes sent out stream K before now tt tt f w tt
 
 -- a turn goes on only where all was answered
 pub good_after : {P : Type 0} (a : Answered) (p : Written) → (a ≡ answered.All → P) → OnOk (after_of a p) P

@@ -1,7 +1,6 @@
 pub mod Answers
 pub mod Pipe
 pub mod Promise
-pub mod Reading
 pub mod Responses
 pub mod Serving
 pub mod Strings

@@ -4,15 +4,18 @@ use Rattle.std.specs.Io.KnownBytes.{Appends}
 use Rattle.df_model.specs.Values.{Bytes}
 use Rattle.df_model.specs.Keyspace.{Keyspace, no_keys}
 use Rattle.df_model.specs.Words.{Words}
-use Rattle.df_model.specs.Framing.{Framed, BeginsWhole, CanGoOn, IsBad}
+use Rattle.df_model.specs.Framing.{Framed, BeginsWhole, CanGoOn}
+use Rattle.df_model.specs.BadInput.{BadAt}
+use Rattle.df_model.specs.Replies.{protocol_error}
 use Rattle.df_model.specs.History.{Item, IsLegal, IsOrdered}
 use Rattle.df_model.specs.Output.{SessionOutput}
+use Rattle.df_model.specs.declared.session.BadKind.{BadKind}
 use Rattle.df_model.specs.declared.session.Why.{Why}
 use Rattle.df_model.specs.declared.session.Why.TheVariants as whys
 use Rattle.df_outside.specs.Faults.{Rose}
 use Rattle.df_outside.specs.Streams.{Inflow, Outflow}
-use Rattle.df_resp.specs.Stream.{Stream}
-use Rattle.df_server.specs.Promise.{Run, PipeRan, WroteFront, IsNumbered, usage}
+use Rattle.df_resp.specs.Stream.{Stream, Counts, place_of}
+use Rattle.df_server.specs.Promise.{Run, PipeRan, Shows, WroteFront, IsNumbered, usage}
 use Rattle.df_server.specs.Serving.{Served}
 use Rattle.df_server.specs.declared.pipe.Answered.{Answered}
 use Rattle.df_server.specs.declared.pipe.Answered.TheVariants as answered
@@ -27,17 +30,41 @@ IsGood stream = stream.failed ≡ None
 
 -- ---- answers
 
+-- the requests so far were answered with this output, and the reader stands at this place of the bytes
+pub record Reached (bytes out : Bytes) (K : Keyspace) (stream : Stream) : Type 0 where
+  pub served : Served no_keys bytes out K stream.rest
+  pub counted : Counts 0 bytes stream.before stream.rest
+
 -- all whole requests among the bytes were answered, with this output
-pub record AllAnswered (bytes out : Bytes) (K : Keyspace) (rest : Bytes) : Type 0 where
-  pub served : Served no_keys bytes out K rest
-  pub no_whole : ¬ (BeginsWhole rest)
+pub record AllAnswered (bytes out : Bytes) (K : Keyspace) (stream : Stream) : Type 0 where
+  pub reached : Reached bytes out K stream
+  pub no_whole : ¬ (BeginsWhole stream.rest)
+
+-- the first bad byte is at this place, as far as the code counts
+pub record BadNear (bytes : Bytes) (at : ℕ) (kind : BadKind) : Type 0 where
+  pub place : ℕ
+  pub bad : BadAt bytes place kind
+  pub at_is : at ≡ place_of place
+
+-- all whole requests were answered, and the protocol error stands behind
+pub record BadAnswered (kind : BadKind) (at : ℕ) (bytes out : Bytes) (K : Keyspace) (stream : Stream) : Type 0 where
+  pub replies : Bytes
+  pub answered : AllAnswered bytes replies K stream
+  pub out_is : out ≡ replies ++ protocol_error kind
+  pub bad : BadNear bytes at kind
 
 -- how far the requests among the bytes were answered, and why not further
-abbrev pub Answering : Answered → Bytes → Bytes → Keyspace → Bytes → Type 0
-Answering answered.All bytes out K rest = AllAnswered bytes out K rest × CanGoOn bytes
-Answering (answered.Bad kind at) bytes out K rest = AllAnswered bytes out K rest × IsBad bytes
+abbrev pub Answering : Answered → Bytes → Bytes → Keyspace → Stream → Type 0
+Answering answered.All bytes out K stream = AllAnswered bytes out K stream × CanGoOn bytes
+Answering (answered.Bad kind at) bytes out K stream = BadAnswered kind at bytes out K stream
 -- the reader may have given a request that found no answer
-Answering answered.NoMemory bytes out K rest = (behind : Bytes) × Served no_keys bytes out K behind
+Answering answered.NoMemory bytes out K stream = (behind : Bytes) × Served no_keys bytes out K behind
+
+-- the protocol error was put behind the output, or there was no memory for it
+abbrev pub SaysBad : Answered → BadKind → ℕ → Bytes → Bytes → Type 0
+SaysBad answered.All kind at old new = ⊥
+SaysBad (answered.Bad k a) kind at old new = (k ≡ kind) × (a ≡ at) × (new ≡ old ++ protocol_error kind)
+SaysBad answered.NoMemory kind at old new = new ≡ old
 
 -- ---- writes
 
@@ -89,18 +116,18 @@ after_of answers written.NoMemory = Err ends.NoMemory
 -- the cause of an end in a turn
 abbrev pub Stops : End → Bytes → Bytes → Outflow → Outflow → Type 0
 Stops ends.InputEnd bytes unsent before now = ⊥
-Stops (ends.Bad kind at) bytes unsent before now = IsBad bytes × (unsent ≡ [])
+Stops (ends.Bad kind at) bytes unsent before now = BadNear bytes at kind × (unsent ≡ [])
 Stops ends.NoMemory bytes unsent before now = Unit {0}
 Stops ends.ReadFault bytes unsent before now = ⊥
 Stops ends.WriteFault bytes unsent before now = Rose before.faults now.faults
 Stops ends.Limit bytes unsent before now = ⊥
 
 -- all whole requests among the bytes were answered, and the answers were written behind what was sent
-pub record GoesOn (bytes sent : Bytes) (K : Keyspace) (rest : Bytes) (before now : Outflow) : Type 0 where
+pub record GoesOn (bytes sent : Bytes) (K : Keyspace) (stream : Stream) (before now : Outflow) : Type 0 where
   pub wrote : Bytes
   pub written : Appends before.written now.written wrote
   pub faults : before.faults ≤ now.faults
-  pub answered : AllAnswered bytes (sent ++ wrote) K rest
+  pub answered : AllAnswered bytes (sent ++ wrote) K stream
   pub can_go_on : CanGoOn bytes
 
 -- the session ended in a turn, and wrote a front of its answers behind what was sent
@@ -108,23 +135,25 @@ pub record StopsHere (end : End) (bytes sent : Bytes) (before now : Outflow) : T
   pub wrote : Bytes
   pub unsent : Bytes
   pub written : Appends before.written now.written wrote
-  pub ended : Ended (why_of end) bytes ((sent ++ wrote) ++ unsent)
+  pub shown : Why
+  pub shows : Shows (why_of end) bytes shown
+  pub ended : Ended shown bytes ((sent ++ wrote) ++ unsent)
   pub stops : Stops end bytes unsent before now
 
-abbrev pub Turns : Result (Unit {0}) End → Bytes → Bytes → Keyspace → Bytes → Outflow → Outflow → Type 0
-Turns (Ok done) bytes sent K rest before now = GoesOn bytes sent K rest before now
-Turns (Err end) bytes sent K rest before now = StopsHere end bytes sent before now
+abbrev pub Turns : Result (Unit {0}) End → Bytes → Bytes → Keyspace → Stream → Outflow → Outflow → Type 0
+Turns (Ok done) bytes sent K stream before now = GoesOn bytes sent K stream before now
+Turns (Err end) bytes sent K stream before now = StopsHere end bytes sent before now
 
 -- ---- the session between two turns
 
 -- since the start this many bytes were taken, all whole requests among them were answered, and the answers written
-pub record Underway (count : ℕ) (K : Keyspace) (rest : Bytes) (input_before input : Inflow) (output_before output : Outflow) : Type 0 where
+pub record Underway (count : ℕ) (K : Keyspace) (stream : Stream) (input_before input : Inflow) (output_before output : Outflow) : Type 0 where
   pub bytes : Bytes
   pub wrote : Bytes
   pub count_is : length bytes ≡ count
   pub taken : Appends input_before.taken input.taken bytes
   pub written : Appends output_before.written output.written wrote
-  pub answered : AllAnswered bytes wrote K rest
+  pub answered : AllAnswered bytes wrote K stream
   pub can_go_on : CanGoOn bytes
   pub input_faults : input_before.faults ≤ input.faults
   pub output_faults : output_before.faults ≤ output.faults
@@ -139,12 +168,12 @@ abbrev pub Ran : End → Inflow → Inflow → Outflow → Outflow → Type 0
 Ran end input_before input output_before output = PipeRan (why_of end) (run_of end input_before input output_before output)
 
 -- however the session came to be underway, it goes on with so many bytes more, or has ended
-abbrev pub ReadsOn : Result ℕ End → ℕ → Keyspace → Keyspace → Bytes → Bytes → Inflow → Inflow → Outflow → Outflow → Type 0
-ReadsOn (Ok count) taken K_old K rest_old rest input_old input output_old output =
-    (input_before : Inflow) (output_before : Outflow) → Underway taken K_old rest_old input_before input_old output_before output_old →
-    Underway (taken + count) K rest input_before input output_before output
-ReadsOn (Err end) taken K_old K rest_old rest input_old input output_old output =
-    (input_before : Inflow) (output_before : Outflow) → Underway taken K_old rest_old input_before input_old output_before output_old →
+abbrev pub ReadsOn : Result ℕ End → ℕ → Keyspace → Keyspace → Stream → Stream → Inflow → Inflow → Outflow → Outflow → Type 0
+ReadsOn (Ok count) taken K_old K stream_old stream input_old input output_old output =
+    (input_before : Inflow) (output_before : Outflow) → Underway taken K_old stream_old input_before input_old output_before output_old →
+    Underway (taken + count) K stream input_before input output_before output
+ReadsOn (Err end) taken K_old K stream_old stream input_old input output_old output =
+    (input_before : Inflow) (output_before : Outflow) → Underway taken K_old stream_old input_before input_old output_before output_old →
     Ran end input_before input output_before output
 
 -- ---- other words

@@ -4,9 +4,11 @@ use Rattle.std.specs.Io.KnownBytes.{Appends}
 use Rattle.df_model.specs.Values.{Bytes}
 use Rattle.df_model.specs.Keyspace.{no_keys}
 use Rattle.df_model.specs.Words.{Words}
-use Rattle.df_model.specs.Framing.{Framed, CanGoOn, IsBad}
+use Rattle.df_model.specs.Framing.{Framed, CanGoOn}
+use Rattle.df_model.specs.BadInput.{BadAt}
 use Rattle.df_model.specs.History.{Item, IsLegal, IsOrdered}
 use Rattle.df_model.specs.Output.{SessionOutput}
+use Rattle.df_model.specs.declared.session.BadKind.{BadKind}
 use Rattle.df_model.specs.declared.session.Why.{Why}
 use Rattle.df_model.specs.declared.session.Why.TheVariants as ends
 use Rattle.df_outside.specs.Faults.{Rose}
@@ -59,8 +61,8 @@ IsNumbered before (item ∷ items) =
 abbrev pub Ends : Why → Bytes → Bytes → Run → Type 0
 -- the source said End, the input is good so far, and all was answered and written
 Ends ends.InputEnd bytes unsent run = (run.status ≡ 0) × (run.input.ended ≡ true) × CanGoOn bytes × (unsent ≡ [])
--- the input is bad, and all that stands before was answered and written
-Ends (ends.Protocol kind at) bytes unsent run = (run.status ≡ 1) × IsBad bytes × (unsent ≡ [])
+-- this byte is the first that makes the input bad; all that stands before was answered, and the error was written
+Ends (ends.Protocol kind at) bytes unsent run = (run.status ≡ 1) × BadAt bytes at kind × (unsent ≡ [])
 Ends ends.NoMemory bytes unsent run = run.status ≡ 4
 -- a read failed; or the limit was reached, and no End came
 Ends ends.ReadFault bytes unsent run =
@@ -73,6 +75,24 @@ Ends ends.Asked bytes unsent run = ⊥
 Ends ends.Stopped bytes unsent run = ⊥
 Ends ends.TooMany bytes unsent run = ⊥
 Ends ends.Spent bytes unsent run = ⊥
+
+-- an end that may cut a session's last line off
+abbrev pub CutsOff : Why → Type 0
+CutsOff ends.WriteFault = Unit {0}
+CutsOff ends.NoMemory = Unit {0}
+CutsOff ends.InputEnd = ⊥
+CutsOff ends.Quit = ⊥
+CutsOff ends.Asked = ⊥
+CutsOff ends.Stopped = ⊥
+CutsOff (ends.Protocol kind at) = ⊥
+CutsOff ends.ReadFault = ⊥
+CutsOff ends.TooMany = ⊥
+CutsOff ends.Spent = ⊥
+
+-- The output is that of the session's end; or the input is bad, and the output with its error line was cut off.
+abbrev pub Shows : Why → Bytes → Why → Type 0
+Shows end bytes shown =
+    (shown ≡ end) ⊎ (CutsOff end × ((kind : BadKind) × ((at : ℕ) × (BadAt bytes at kind × (shown ≡ ends.Protocol kind at)))))
 
 -- The bytes that were taken are framed into requests; there is one list of the session's calls, legal from the
 -- empty keyspace and ordered; what was written is a front of the session's output over these.
@@ -88,8 +108,10 @@ pub record PipeRan (end : Why) (run : Run) : Type 0 where
   pub legal : IsLegal no_keys items
   pub ordered : IsOrdered items
   pub numbered : IsNumbered 0 items
+  pub shown : Why
+  pub shows : Shows end bytes shown
   pub out : Bytes
-  pub output : SessionOutput requests end items out
+  pub output : SessionOutput requests shown items out
   pub unsent : Bytes
   pub front : out ≡ wrote ++ unsent
   pub ends : Ends end bytes unsent run

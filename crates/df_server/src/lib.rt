@@ -4,7 +4,6 @@
 mod keys;
 mod pipe;
 mod program;
-mod reading;
 mod session;
 
 pub use program::offline;

@@ -3,17 +3,16 @@
 //! A turn reads once, answers each request that is whole by then, and writes the answers together.
 //! All memory for reading and writing is kept from turn to turn.
 
-ghost use Rattle.std.specs.Prelude.{◌≡◌, ◌<◌, ◌≤◌, [], ◌++◌, length, IfOk, OnOk};
+ghost use Rattle.std.specs.Prelude.{◌≡◌, ◌+◌, ◌<◌, ◌≤◌, [], ◌++◌, length, IfOk, OnOk};
 ghost use Rattle.df_model.specs.Values.{Bytes};
 ghost use Rattle.df_model.specs.Keyspace.{no_keys};
-ghost use Rattle.df_server.specs.Serving.{Served};
-ghost use Rattle.df_server.specs.Pipe.{IsGood, Answering, HasWritten, after_of, status_of, Turns, ReadsOn, Ran, Underway};
+ghost use Rattle.df_server.specs.Pipe.{IsGood, Reached, Answering, SaysBad, HasWritten, after_of, status_of, Turns, ReadsOn, Ran, Underway};
 
 use crate::keys::Keys;
 use crate::session::serve;
 use df_model::BadKind;
 use df_outside::{Got, Put, Sink, Source};
-use df_resp::{Next, Reader};
+use df_resp::{Next, Reader, encode_protocol_error};
 use std::alloc::Global;
 
 /// Bytes that a session takes at the most (1 TiB), so that it ends whatever the source does.
@@ -63,7 +62,7 @@ pub enum Written {
 #[derive(Clone, Copy, Debug)]
 enum Answered {
     All,
-    /// All, and behind them the input is bad.
+    /// All, and behind them the input is bad, which the output says.
     Bad(BadKind, u64),
     NoMemory,
 }
@@ -92,6 +91,7 @@ impl Session {
     fn new(alloc: Global) -> Session
         ensures good { IsGood result.reader }
         ensures rest { result.reader.rest ≡ [] }
+        ensures before { result.reader.before ≡ 0 }
         ensures keys { result.keys ≡ no_keys }
     {
         Session {
@@ -106,6 +106,7 @@ impl Session {
     fn run<S: Source, O: Sink>(&mut self, buffer: &mut [u8], input: &mut S, out: &mut O) -> End
         requires good { IsGood self.old.reader }
         requires rest { self.old.reader.rest ≡ [] }
+        requires before { self.old.reader.before ≡ 0 }
         requires keys { self.old.keys ≡ no_keys }
         requires room { 0 < length buffer.old }
         ensures { Ran result (S.inflow input.old) (S.inflow input.new) (O.outflow out.old) (O.outflow out.new) }
@@ -132,10 +133,11 @@ impl Session {
         requires good { IsGood self.old.reader }
         requires room { 0 < length buffer.old }
         requires below { taken < INPUT_LIMIT }
+        requires within { taken + length buffer.old ≤ INPUT_LIMIT }
         ensures good { OnOk result (IsGood self.new.reader) }
         ensures some { IfOk result (λ count. 0 < count) }
         ensures fits { IfOk result (λ count. count ≤ length buffer.old) }
-        ensures reads { ReadsOn result taken self.old.keys self.new.keys self.old.reader.rest self.new.reader.rest (S.inflow input.old) (S.inflow input.new) (O.outflow out.old) (O.outflow out.new) }
+        ensures reads { ReadsOn result taken self.old.keys self.new.keys self.old.reader self.new.reader (S.inflow input.old) (S.inflow input.new) (O.outflow out.old) (O.outflow out.new) }
     {
         match input.read(buffer) {
             Got::Took(count) => {
@@ -154,8 +156,8 @@ impl Session {
     fn turn<O: Sink>(&mut self, piece: &[u8], out: &mut O) -> Result<(), End>
         requires { IsGood self.old.reader }
         ensures good { OnOk result (IsGood self.new.reader) }
-        ensures turns { (bytes sent : Bytes) → Served no_keys bytes sent self.old.keys self.old.reader.rest →
-            Turns result (bytes ++ piece.now) sent self.new.keys self.new.reader.rest (O.outflow out.old) (O.outflow out.new) }
+        ensures turns { (bytes sent : Bytes) → Reached bytes sent self.old.keys self.old.reader →
+            Turns result (bytes ++ piece.now) sent self.new.keys self.new.reader (O.outflow out.old) (O.outflow out.new) }
     {
         let answered = self.answer_piece(piece);
         let written = write_all(self.output.as_slice(), out);
@@ -166,8 +168,8 @@ impl Session {
     fn answer_piece(&mut self, piece: &[u8]) -> Answered
         requires { IsGood self.old.reader }
         ensures good { result ≡ Answered.All → IsGood self.new.reader }
-        ensures answering { (bytes sent : Bytes) → Served no_keys bytes sent self.old.keys self.old.reader.rest →
-            Answering result (bytes ++ piece.now) (sent ++ self.new.output.items) self.new.keys self.new.reader.rest }
+        ensures answering { (bytes sent : Bytes) → Reached bytes sent self.old.keys self.old.reader →
+            Answering result (bytes ++ piece.now) (sent ++ self.new.output.items) self.new.keys self.new.reader }
     {
         self.output.clear();
         if self.reader.feed(piece).is_err() {
@@ -180,8 +182,8 @@ impl Session {
     fn answer_all(&mut self) -> Answered
         requires { IsGood self.old.reader }
         ensures good { result ≡ Answered.All → IsGood self.new.reader }
-        ensures answering { (bytes sent : Bytes) → Served no_keys bytes (sent ++ self.old.output.items) self.old.keys self.old.reader.rest →
-            Answering result bytes (sent ++ self.new.output.items) self.new.keys self.new.reader.rest }
+        ensures answering { (bytes sent : Bytes) → Reached bytes (sent ++ self.old.output.items) self.old.keys self.old.reader →
+            Answering result bytes (sent ++ self.new.output.items) self.new.keys self.new.reader }
     {
         'requests: loop {
             match self.reader.next() {
@@ -197,10 +199,20 @@ impl Session {
                     }
                 }
                 Ok(Next::NeedMore) => return Answered::All,
-                Ok(Next::Bad { kind, at }) => return Answered::Bad(kind, at),
+                Ok(Next::Bad { kind, at }) => return say_bad(kind, at, &mut self.output),
                 Err(_) => return Answered::NoMemory,
             }
         }
+    }
+}
+
+/// Puts the protocol error behind the answers.
+fn say_bad(kind: BadKind, at: u64, output: &mut Vec<u8>) -> Answered
+    ensures { SaysBad result kind at output.old.items output.new.items }
+{
+    match encode_protocol_error(kind, output) {
+        Ok(()) => Answered::Bad(kind, at),
+        Err(_) => Answered::NoMemory,
     }
 }
 

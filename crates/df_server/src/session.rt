@@ -12,15 +12,15 @@ ghost use Rattle.df_model.specs.Meaning.{meaning};
 ghost use Rattle.df_model.specs.Meaning.Keyless as keyless;
 ghost use Rattle.df_model.specs.Meaning.Strings as strings;
 ghost use Rattle.df_model.specs.Replies.{encoding_of};
-ghost use Rattle.df_model.specs.Reads.{reads};
+ghost use Rattle.df_model.specs.Reads.{IsLinked, reads_linked};
 ghost use Rattle.df_model.specs.Session.{State, session_step};
 ghost use Rattle.df_server.specs.Answers.{Replied};
 ghost use Rattle.df_server.specs.Responses.{response, Gives, guard_allows};
 
 use crate::keys::Keys;
-use crate::reading::{Refusal, read_command};
 use bytes::Bytes;
 use df_model::{Bin, Command, ErrorText, Guard, NoMemory, OneOp, PlainOp};
+use df_parse::{Refusal, read_linked};
 use df_resp::{encode_bulk, encode_error, encode_null, encode_simple};
 use std::alloc::Global;
 
@@ -47,11 +47,11 @@ fn answer(
     words: &[Bytes],
     out: &mut Vec<u8>,
 ) -> Result<(), NoMemory>
-    ensures ok { OnOk result (Gives (response (reads words.now) keys.old) keys.new out.old.items out.new.items) }
+    ensures ok { OnOk result (Gives (response (reads_linked words.now) keys.old) keys.new out.old.items out.new.items) }
     ensures keys { OnErr result (keys.new ≡ keys.old) }
     ensures out { OnErr result (out.new.items ≡ out.old.items) }
 {
-    match read_command(alloc, words) {
+    match read_linked(alloc, words) {
         Ok(command) => run(keys, command, out),
         Err(Refusal::Unknown) => encode_error(&ErrorText::Unknown, out),
         Err(Refusal::Arity(error)) => encode_error(&error, out),
@@ -59,7 +59,9 @@ fn answer(
     }
 }
 
+/// Runs a command that is linked to the session's table.
 fn run(keys: &mut Keys, command: Command, out: &mut Vec<u8>) -> Result<(), NoMemory>
+    requires { IsLinked command }
     ensures ok { OnOk result (Gives (meaning command keys.old) keys.new out.old.items out.new.items) }
     ensures keys { OnErr result (keys.new ≡ keys.old) }
     ensures out { OnErr result (out.new.items ≡ out.old.items) }
@@ -67,9 +69,8 @@ fn run(keys: &mut Keys, command: Command, out: &mut Vec<u8>) -> Result<(), NoMem
     match command {
         Command::Plain(PlainOp::Ping(message)) => ping(message, out),
         Command::One(key, op) => run_one(keys, key, op, out),
-        Command::Many(op) => match op {},
-        Command::Whole(op) => match op {},
         Command::Wrong(error) => encode_error(&error, out),
+        _ => unreachable!(),
     }
 }
 
@@ -84,6 +85,7 @@ fn ping(message: Option<Bin>, out: &mut Vec<u8>) -> Result<(), NoMemory>
 }
 
 fn run_one(keys: &mut Keys, key: Bin, op: OneOp, out: &mut Vec<u8>) -> Result<(), NoMemory>
+    requires { IsLinked (Command.One key op) }
     ensures ok { OnOk result (Gives (meaning (Command.One key op) keys.old) keys.new out.old.items out.new.items) }
     ensures keys { OnErr result (keys.new ≡ keys.old) }
     ensures out { OnErr result (out.new.items ≡ out.old.items) }
@@ -91,11 +93,12 @@ fn run_one(keys: &mut Keys, key: Bin, op: OneOp, out: &mut Vec<u8>) -> Result<()
     match op {
         OneOp::Get => get(keys, &key, out),
         OneOp::Set(value, guard) => set(keys, key, value, guard, out),
+        _ => unreachable!(),
     }
 }
 
 fn get(keys: &Keys, key: &Bin, out: &mut Vec<u8>) -> Result<(), NoMemory>
-    ensures ok { OnOk result (out.new.items ≡ out.old.items ++ encoding_of (strings.get (held keys.now key.now))) }
+    ensures ok { OnOk result (out.new.items ≡ out.old.items ++ encoding_of (strings.looks strings.get (held keys.now key.now))) }
     ensures err { OnErr result (out.new.items ≡ out.old.items) }
 {
     match keys.get(key) {

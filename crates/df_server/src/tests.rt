@@ -64,6 +64,10 @@ fn requests_are_answered_in_order(rt: HostRuntime) -> Result<(), Fail> {
             b"-ERR syntax error\r\n",
         ),
         (
+            b"*4\r\n$3\r\nSET\r\n$1\r\nn\r\n$1\r\n1\r\n$2\r\nxx\r\n*4\r\n$3\r\nSET\r\n$1\r\nn\r\n$1\r\n2\r\n$2\r\nNX\r\n*4\r\n$3\r\nSET\r\n$1\r\nn\r\n$1\r\n3\r\n$2\r\nnx\r\n*2\r\n$3\r\nGET\r\n$1\r\nn\r\n",
+            b"$-1\r\n+OK\r\n$-1\r\n$1\r\n2\r\n",
+        ),
+        (
             b"*1\r\n$3\r\nGET\r\n",
             b"-ERR wrong number of arguments for 'get' command\r\n",
         ),
@@ -96,8 +100,25 @@ fn cuts_of_the_input_change_nothing(rt: HostRuntime) -> Result<(), Fail> {
 
 #[test]
 fn what_stands_before_bad_input_is_answered(rt: HostRuntime) -> Result<(), Fail> {
-    let (status, sink) = pipe(rt.alloc(), &[PING, b"*1\r\n$536870913\r\n"])?;
-    assert_eq!(rt; (status, sink.written()), (1, b"+PONG\r\n".as_slice()));
+    for (bad, want) in [
+        (
+            b"*1\r\n$536870913\r\n".as_slice(),
+            b"+PONG\r\n-ERR Protocol error: bad length\r\n".as_slice(),
+        ),
+        (
+            b"*1\r\n$03",
+            b"+PONG\r\n-ERR Protocol error: bad length\r\n",
+        ),
+        (b"PING\r\n", b"+PONG\r\n-ERR Protocol error: bad start\r\n"),
+        (b"*01\r\n", b"+PONG\r\n-ERR Protocol error: bad count\r\n"),
+        (
+            b"*1\r\n$4\r\nPINGS",
+            b"+PONG\r\n-ERR Protocol error: bad end\r\n",
+        ),
+    ] {
+        let (status, sink) = pipe(rt.alloc(), &[PING, bad])?;
+        assert_eq!(rt; (status, sink.written()), (1, want), "at {bad:?}");
+    }
     Ok(())
 }
 

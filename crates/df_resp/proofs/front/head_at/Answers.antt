@@ -1,7 +1,5 @@
 use Rattle.std.proofs.Common.{sym, ◌∙◌}
 use Rattle.df_resp.proofs.SeenLaws.{sees_line}
-use Rattle.df_resp.proofs.RestLaws.{bad_place}
-use Rattle.df_resp.proofs.StepLaws.{line_taken}
 use Rattle.df_resp.proofs.front.head_at.Goals as goal
 
 pub returns : goal.returns

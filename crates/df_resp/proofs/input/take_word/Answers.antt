@@ -1,12 +1,10 @@
-use Rattle.std.proofs.Common.{◌≡◌, ◌-◌, ◌+◌, ◌<◌, ◌≤◌, [], ◌∷◌, ◌++◌, length, take, drop, refl, ap, sym, subst, ◌∙◌, arith}
-use Rattle.df_model.specs.Values.{Bytes}
-use Rattle.df_model.specs.Framing.{Splits, sent_word}
+use Rattle.std.proofs.Common.{◌≡◌, ◌-◌, [], drop, refl, ap, sym, subst, arith}
+use Rattle.df_model.specs.Framing.{Splits}
 use Rattle.df_model.proofs.FramingLaws.{no_split}
-use Rattle.df_resp.specs.Scan.{Scan}
 use Rattle.df_resp.specs.Frames.{room, word}
 use Rattle.df_resp.specs.Seen.{SeesWord}
-use Rattle.df_resp.specs.Stream.{joined, Fits}
-use Rattle.df_resp.specs.declared.front.Seen.TheVariants.{More, Bad, Whole}
+use Rattle.df_resp.specs.Stream.{joined}
+use Rattle.df_resp.specs.declared.front.Seen.TheVariants.{More, Bad}
 use Rattle.df_resp.proofs.StepLaws.{WordTaken, word_seen, more_inside, bad_inside, one_more_word, rest_stays, request_whole}
 use Rattle.df_resp.proofs.input.take_word.Goals as goal
 

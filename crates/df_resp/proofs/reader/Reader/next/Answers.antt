@@ -1,11 +1,10 @@
-use Rattle.std.proofs.Common.{◌≡◌, [], ◌∷◌, refl, subst}
+use Rattle.std.proofs.Common.{[], ◌∷◌, refl, subst}
 use Rattle.df_model.specs.Values.{Bytes}
 use Rattle.df_model.specs.Framing.{Splits, IsPartial, BeginsWhole}
 use Rattle.df_model.proofs.FramingLaws.{splits_join}
 use Rattle.df_resp.specs.Stream.{rest_of}
 use Rattle.df_resp.specs.Steps.{Steps}
 use Rattle.df_resp.specs.declared.input.Input.{Input}
-use Rattle.df_resp.specs.declared.input.Step.TheVariants.{Whole}
 use Rattle.df_resp.proofs.CountLaws.{counts_step}
 use Rattle.df_resp.proofs.NextLaws.{on_step, more_step, BadStep, bad_step}
 use Rattle.df_resp.proofs.reader.Reader.next.Goals as goal

@@ -15,7 +15,7 @@ requests-preserved c =
     subst (λ w. Replied (session_step State.Ready w).0 old.keys c.serve-served.new.keys old.output.items c.serve-served.new.out.items) c.as_slice.ensures.value (on_ok c.serve-served.result c.if-is_err.ensures.value c.serve-served.ensures.ok) in
     record {
       good = given.0;
-      so_far = λ bytes sent s. one_answered bytes sent old.output.items c.serve-served.new.out.items old.reader.rest c.next.new.self.rest old.keys c.serve-served.new.keys c.in-Ok-Words.words.items (c.requests.invariant.so_far bytes sent s) given.1 replied;
+      so_far = λ bytes sent s. one_answered bytes sent old.output.items c.serve-served.new.out.items old.reader c.next.new.self old.keys c.serve-served.new.keys c.in-Ok-Words.words.items (c.requests.invariant.so_far bytes sent s) given.1 c.next.ensures.count replied;
     }
 
 pub requests-smaller : goal.requests-smaller
@@ -27,21 +27,21 @@ pub returns-in-Ok-NeedMore-clause-answering : goal.returns-in-Ok-NeedMore-clause
 returns-in-Ok-NeedMore-clause-answering c = λ bytes sent s.
     let old = c.requests.self in
     let given : Gives next.NeedMore old.reader c.next.new.self = subst (λ x. Gives x old.reader c.next.new.self) c.in-Ok-NeedMore.field-0-is (c.in-Ok-NeedMore.ensures.ok c.requests.invariant.good) in
-    all_answered bytes (sent ++ old.output.items) old.reader.rest c.next.new.self.rest old.keys (c.requests.invariant.so_far bytes sent s) given.1 given.2 given.3
+    all_answered bytes (sent ++ old.output.items) old.reader c.next.new.self old.keys (c.requests.invariant.so_far bytes sent s) given.1 c.next.ensures.count given.2 given.3
 
 pub returns-in-Ok-Bad-clause-answering : goal.returns-in-Ok-Bad-clause-answering
 returns-in-Ok-Bad-clause-answering c = λ bytes sent s.
     let old = c.requests.self in
     let bad = c.in-Ok-Bad in
     let given : Gives (next.Bad bad.kind bad.at) old.reader c.next.new.self = subst (λ x. Gives x old.reader c.next.new.self) bad.field-0-is (bad.ensures.ok c.requests.invariant.good) in
-    bad_answered bad.kind bad.at bytes (sent ++ old.output.items) old.reader.rest c.next.new.self.rest old.keys (c.requests.invariant.so_far bytes sent s) given.1 given.2 given.3
+    bad_answered c.say_bad.result bad.kind bad.at given.4.0 bytes sent old.output.items c.say_bad.new.output.items old.reader c.next.new.self old.keys (c.requests.invariant.so_far bytes sent s) given.1 c.next.ensures.count given.3 given.4.1 given.4.2 c.say_bad.ensures
 
 pub returns-in-Err-clause-answering : goal.returns-in-Err-clause-answering
-returns-in-Err-clause-answering c = λ bytes sent s. (c.requests.self.reader.rest, c.requests.invariant.so_far bytes sent s)
+returns-in-Err-clause-answering c = λ bytes sent s. (c.requests.self.reader.rest, (c.requests.invariant.so_far bytes sent s).served)
 
 pub returns-then-is_err-clause-answering : goal.returns-then-is_err-clause-answering
 returns-then-is_err-clause-answering c = λ bytes sent s.
     let old = c.requests.self in
     let keys : c.serve-served.new.keys ≡ old.keys = on_err c.serve-served.result c.if-is_err.ensures.value c.serve-served.ensures.keys in
     let out : c.serve-served.new.out.items ≡ old.output.items = on_err c.serve-served.result c.if-is_err.ensures.value c.serve-served.ensures.out in
-    (old.reader.rest, none_answered bytes sent old.output.items c.serve-served.new.out.items old.reader.rest old.keys c.serve-served.new.keys (c.requests.invariant.so_far bytes sent s) keys out)
+    (old.reader.rest, none_answered bytes sent old.output.items c.serve-served.new.out.items old.reader.rest old.keys c.serve-served.new.keys (c.requests.invariant.so_far bytes sent s).served keys out)

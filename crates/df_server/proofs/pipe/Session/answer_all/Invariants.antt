@@ -1,14 +1,12 @@
 use Rattle.std.proofs.Common.{◌++◌, length}
 use Rattle.df_model.specs.Values.{Bytes}
-use Rattle.df_model.specs.Keyspace.{no_keys}
-use Rattle.df_server.specs.Serving.{Served}
-use Rattle.df_server.specs.Pipe.{IsGood}
+use Rattle.df_server.specs.Pipe.{IsGood, Reached}
 use Rattle.df_server.proofs.pipe.Session.answer_all.Given as goal
 
 abbrev pub invariant-requests : goal.invariant-requests
 invariant-requests l = record {
   good : IsGood l.self.reader;
-  so_far : (bytes sent : Bytes) → Served no_keys bytes (sent ++ l.fn.self.output.items) l.fn.self.keys l.fn.self.reader.rest → Served no_keys bytes (sent ++ l.self.output.items) l.self.keys l.self.reader.rest;
+  so_far : (bytes sent : Bytes) → Reached bytes (sent ++ l.fn.self.output.items) l.fn.self.keys l.fn.self.reader → Reached bytes (sent ++ l.self.output.items) l.self.keys l.self.reader;
 }
 
 abbrev pub decreases-requests : goal.decreases-requests

@@ -1,0 +1,106 @@
+//! Shapes of commands of several keys.
+
+ghost use Rattle.std.specs.Prelude.{codes};
+ghost use Rattle.df_model.specs.Reads.Shapes as shape;
+ghost use Rattle.df_parse.specs.Ops as op_of;
+ghost use Rattle.df_parse.specs.Reading.{RowRead};
+
+use crate::Refusal;
+use crate::fields::{bin, bins, pairs_of};
+use crate::ops::{KeyKeys, ManyKeys, ManyPairs, TwoKeys};
+use crate::options::side_of;
+use crate::refusal::{arity, unpaired};
+use bytes::Bytes;
+use df_model::{Command, ErrorText, ManyOp};
+use std::alloc::Global;
+
+/// key ..
+pub fn keys(alloc: Global, name: &str, op: ManyKeys, words: &[Bytes]) -> Result<Command, Refusal>
+    ensures { RowRead name.now (shape.keys (op_of.keys op) words.now) result }
+{
+    match words {
+        [_, ..] => {
+            let keys = bins(alloc, words)?;
+            Ok(Command::Many(op.op(keys)))
+        }
+        _ => arity(alloc, name),
+    }
+}
+
+/// key key ..
+pub fn key_keys(alloc: Global, name: &str, op: KeyKeys, words: &[Bytes]) -> Result<Command, Refusal>
+    ensures { RowRead name.now (shape.key_keys (op_of.key_keys op) words.now) result }
+{
+    match words {
+        [target, keys @ ..] if !keys.is_empty() => {
+            let target = bin(alloc, target)?;
+            let keys = bins(alloc, keys)?;
+            Ok(Command::Many(op.op(target, keys)))
+        }
+        _ => arity(alloc, name),
+    }
+}
+
+/// The words behind the name: `key key`.
+pub fn two_keys(alloc: Global, name: &str, op: TwoKeys, words: &[Bytes]) -> Result<Command, Refusal>
+    ensures { RowRead name.now (shape.two_keys (op_of.two_keys op) words.now) result }
+{
+    match words {
+        [source, target] => {
+            let source = bin(alloc, source)?;
+            let target = bin(alloc, target)?;
+            Ok(Command::Many(op.op(source, target)))
+        }
+        _ => arity(alloc, name),
+    }
+}
+
+/// The words behind the name: `key key member`.
+pub fn smove(alloc: Global, words: &[Bytes]) -> Result<Command, Refusal>
+    ensures { RowRead (codes "smove") (shape.two_keys_word ManyOp.Smove words.now) result }
+{
+    match words {
+        [source, target, member] => {
+            let source = bin(alloc, source)?;
+            let target = bin(alloc, target)?;
+            let member = bin(alloc, member)?;
+            Ok(Command::Many(ManyOp::Smove(source, target, member)))
+        }
+        _ => arity(alloc, "smove"),
+    }
+}
+
+/// The words behind the name: `key key LEFT or RIGHT LEFT or RIGHT`.
+pub fn lmove(alloc: Global, words: &[Bytes]) -> Result<Command, Refusal>
+    ensures { RowRead (codes "lmove") (shape.lmove words.now) result }
+{
+    match words {
+        [source, target, from, to] => {
+            let Some(from) = side_of(from) else {
+                return Ok(Command::Wrong(ErrorText::Syntax));
+            };
+            let Some(to) = side_of(to) else {
+                return Ok(Command::Wrong(ErrorText::Syntax));
+            };
+            let source = bin(alloc, source)?;
+            let target = bin(alloc, target)?;
+            Ok(Command::Many(ManyOp::Lmove(source, target, from, to)))
+        }
+        _ => arity(alloc, "lmove"),
+    }
+}
+
+/// MSET and MSETNX.
+pub fn pairs(alloc: Global, name: &str, op: ManyPairs, words: &[Bytes]) -> Result<Command, Refusal>
+    ensures { RowRead name.now (shape.pairs name.now (op_of.pairs op) words.now) result }
+{
+    match words {
+        [_, _, ..] => {
+            let Some(pairs) = pairs_of(alloc, words)? else {
+                return unpaired(alloc, name);
+            };
+            Ok(Command::Many(op.op(pairs)))
+        }
+        _ => arity(alloc, name),
+    }
+}

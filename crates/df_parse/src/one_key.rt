@@ -1,0 +1,288 @@
+//! Shapes of commands of one key.
+
+ghost use Rattle.std.specs.Prelude.{codes};
+ghost use Rattle.df_model.specs.Reads.Shapes as shape;
+ghost use Rattle.df_parse.specs.Ops as op_of;
+ghost use Rattle.df_parse.specs.Reading.{CommandRead, RowRead};
+
+use crate::Refusal;
+use crate::fields::{bin, bins, number, pairs_of};
+use crate::ops::{KeyMany, KeyNumber, KeyNumberWord, KeyNumbers, KeyPairs, KeyWord, Pop};
+use crate::options::{beside_of, guards};
+use crate::refusal::{arity, unpaired};
+use bytes::Bytes;
+use df_model::{Command, ErrorText, OneOp};
+use std::alloc::Global;
+
+/// The words behind the name: `key`.
+pub fn key(alloc: Global, name: &str, op: OneOp, words: &[Bytes]) -> Result<Command, Refusal>
+    ensures { RowRead name.now (shape.key op words.now) result }
+{
+    match words {
+        [key] => {
+            let key = bin(alloc, key)?;
+            Ok(Command::One(key, op))
+        }
+        _ => arity(alloc, name),
+    }
+}
+
+/// The words behind the name: `key word`.
+pub fn key_word(alloc: Global, name: &str, op: KeyWord, words: &[Bytes]) -> Result<Command, Refusal>
+    ensures { RowRead name.now (shape.key_word (op_of.key_word op) words.now) result }
+{
+    match words {
+        [key, word] => {
+            let key = bin(alloc, key)?;
+            let word = bin(alloc, word)?;
+            Ok(Command::One(key, op.op(word)))
+        }
+        _ => arity(alloc, name),
+    }
+}
+
+/// The words behind the name: `key field value`.
+pub fn hsetnx(alloc: Global, words: &[Bytes]) -> Result<Command, Refusal>
+    ensures { RowRead (codes "hsetnx") (shape.key_words OneOp.Hsetnx words.now) result }
+{
+    match words {
+        [key, field, value] => {
+            let key = bin(alloc, key)?;
+            let field = bin(alloc, field)?;
+            let value = bin(alloc, value)?;
+            Ok(Command::One(key, OneOp::Hsetnx(field, value)))
+        }
+        _ => arity(alloc, "hsetnx"),
+    }
+}
+
+/// The words behind the name: `key number`.
+pub fn key_number(
+    alloc: Global,
+    name: &str,
+    op: KeyNumber,
+    words: &[Bytes],
+) -> Result<Command, Refusal>
+    ensures { RowRead name.now (shape.key_number (op_of.key_number op) words.now) result }
+{
+    match words {
+        [key, word] => {
+            let Some(number) = number(word) else {
+                return Ok(Command::Wrong(ErrorText::NotInteger));
+            };
+            let key = bin(alloc, key)?;
+            Ok(Command::One(key, op.op(number)))
+        }
+        _ => arity(alloc, name),
+    }
+}
+
+/// The words behind the name: `key number number`.
+pub fn key_numbers(
+    alloc: Global,
+    name: &str,
+    op: KeyNumbers,
+    words: &[Bytes],
+) -> Result<Command, Refusal>
+    ensures { RowRead name.now (shape.key_numbers (op_of.key_numbers op) words.now) result }
+{
+    match words {
+        [key, from, to] => by_numbers(alloc, op, key, from, to),
+        _ => arity(alloc, name),
+    }
+}
+
+fn by_numbers(
+    alloc: Global,
+    op: KeyNumbers,
+    key: &Bytes,
+    from: &Bytes,
+    to: &Bytes,
+) -> Result<Command, Refusal>
+    ensures { CommandRead (shape.by_numbers (op_of.key_numbers op) key.now from.now to.now) result }
+{
+    let Some(from) = number(from) else {
+        return Ok(Command::Wrong(ErrorText::NotInteger));
+    };
+    let Some(to) = number(to) else {
+        return Ok(Command::Wrong(ErrorText::NotInteger));
+    };
+    let key = bin(alloc, key)?;
+    Ok(Command::One(key, op.op(from, to)))
+}
+
+/// The words behind the name: `key number word`.
+pub fn key_number_word(
+    alloc: Global,
+    name: &str,
+    op: KeyNumberWord,
+    words: &[Bytes],
+) -> Result<Command, Refusal>
+    ensures { RowRead name.now (shape.key_number_word (op_of.key_number_word op) words.now) result }
+{
+    match words {
+        [key, number, word] => by_number_word(alloc, op, key, number, word),
+        _ => arity(alloc, name),
+    }
+}
+
+fn by_number_word(
+    alloc: Global,
+    op: KeyNumberWord,
+    key: &Bytes,
+    digits: &Bytes,
+    word: &Bytes,
+) -> Result<Command, Refusal>
+    ensures { CommandRead (shape.by_number_word (op_of.key_number_word op) key.now digits.now word.now) result }
+{
+    let Some(number) = number(digits) else {
+        return Ok(Command::Wrong(ErrorText::NotInteger));
+    };
+    let key = bin(alloc, key)?;
+    let word = bin(alloc, word)?;
+    Ok(Command::One(key, op.op(number, word)))
+}
+
+/// The words behind the name: `key field number`.
+pub fn hincrby(alloc: Global, words: &[Bytes]) -> Result<Command, Refusal>
+    ensures { RowRead (codes "hincrby") (shape.key_word_number OneOp.Hincrby words.now) result }
+{
+    match words {
+        [key, field, number] => hincrby_by(alloc, key, field, number),
+        _ => arity(alloc, "hincrby"),
+    }
+}
+
+fn hincrby_by(alloc: Global, key: &Bytes, field: &Bytes, digits: &Bytes) -> Result<Command, Refusal>
+    ensures { CommandRead (shape.by_word_number OneOp.Hincrby key.now field.now digits.now) result }
+{
+    let Some(number) = number(digits) else {
+        return Ok(Command::Wrong(ErrorText::NotInteger));
+    };
+    let key = bin(alloc, key)?;
+    let field = bin(alloc, field)?;
+    Ok(Command::One(key, OneOp::Hincrby(field, number)))
+}
+
+/// key word ..
+pub fn key_many(alloc: Global, name: &str, op: KeyMany, words: &[Bytes]) -> Result<Command, Refusal>
+    ensures { RowRead name.now (shape.key_many (op_of.key_many op) words.now) result }
+{
+    match words {
+        [key, words @ ..] if !words.is_empty() => {
+            let key = bin(alloc, key)?;
+            let words = bins(alloc, words)?;
+            Ok(Command::One(key, op.op(words)))
+        }
+        _ => arity(alloc, name),
+    }
+}
+
+/// The words behind the name: `key at bytes`.
+pub fn setrange(alloc: Global, words: &[Bytes]) -> Result<Command, Refusal>
+    ensures { RowRead (codes "setrange") (shape.setrange words.now) result }
+{
+    match words {
+        [key, at, bytes] => {
+            let Some(at) = number(at) else {
+                return Ok(Command::Wrong(ErrorText::NotInteger));
+            };
+            if at < 0 {
+                return Ok(Command::Wrong(ErrorText::OffsetRange));
+            }
+            let key = bin(alloc, key)?;
+            let bytes = bin(alloc, bytes)?;
+            Ok(Command::One(key, OneOp::Setrange(at, bytes)))
+        }
+        _ => arity(alloc, "setrange"),
+    }
+}
+
+/// LPOP and RPOP.
+pub fn pop(alloc: Global, name: &str, op: Pop, words: &[Bytes]) -> Result<Command, Refusal>
+    ensures { RowRead name.now (shape.pop (op_of.pop op) words.now) result }
+{
+    match words {
+        [key] => {
+            let key = bin(alloc, key)?;
+            Ok(Command::One(key, op.op(None)))
+        }
+        [key, count] => {
+            let Some(count) = number(count) else {
+                return Ok(Command::Wrong(ErrorText::NotInteger));
+            };
+            if count < 0 {
+                return Ok(Command::Wrong(ErrorText::NotInteger));
+            }
+            let key = bin(alloc, key)?;
+            Ok(Command::One(key, op.op(Some(count))))
+        }
+        _ => arity(alloc, name),
+    }
+}
+
+/// The words behind the name: `key value [NX] [XX]`.
+pub fn set(alloc: Global, words: &[Bytes]) -> Result<Command, Refusal>
+    ensures { RowRead (codes "set") (shape.set words.now) result }
+{
+    match words {
+        [key, bytes, options @ ..] => {
+            let Some(guard) = guards(options) else {
+                return Ok(Command::Wrong(ErrorText::Syntax));
+            };
+            let key = bin(alloc, key)?;
+            let bytes = bin(alloc, bytes)?;
+            Ok(Command::One(key, OneOp::Set(bytes, guard)))
+        }
+        _ => arity(alloc, "set"),
+    }
+}
+
+/// The words behind the name: `key BEFORE or AFTER pivot value`.
+pub fn linsert(alloc: Global, words: &[Bytes]) -> Result<Command, Refusal>
+    ensures { RowRead (codes "linsert") (shape.linsert words.now) result }
+{
+    match words {
+        [key, place, pivot, bytes] => {
+            let Some(beside) = beside_of(place) else {
+                return Ok(Command::Wrong(ErrorText::Syntax));
+            };
+            let key = bin(alloc, key)?;
+            let pivot = bin(alloc, pivot)?;
+            let bytes = bin(alloc, bytes)?;
+            Ok(Command::One(key, OneOp::Linsert(beside, pivot, bytes)))
+        }
+        _ => arity(alloc, "linsert"),
+    }
+}
+
+/// HSET and HMSET.
+pub fn key_pairs(
+    alloc: Global,
+    name: &str,
+    op: KeyPairs,
+    words: &[Bytes],
+) -> Result<Command, Refusal>
+    ensures { RowRead name.now (shape.key_pairs name.now (op_of.key_pairs op) words.now) result }
+{
+    match words {
+        [key, words @ ..] if words.len() > 1 => by_pairs(alloc, name, op, key, words),
+        _ => arity(alloc, name),
+    }
+}
+
+fn by_pairs(
+    alloc: Global,
+    name: &str,
+    op: KeyPairs,
+    key: &Bytes,
+    words: &[Bytes],
+) -> Result<Command, Refusal>
+    ensures { CommandRead (shape.by_pairs name.now (op_of.key_pairs op) key.now words.now) result }
+{
+    let Some(pairs) = pairs_of(alloc, words)? else {
+        return unpaired(alloc, name);
+    };
+    let key = bin(alloc, key)?;
+    Ok(Command::One(key, op.op(pairs)))
+}

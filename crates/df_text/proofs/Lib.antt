@@ -1,0 +1,4 @@
+pub mod DigitLaws
+pub mod DecimalLaws
+pub mod RunLaws
+pub mod ReadingLaws
