@@ -1,24 +1,18 @@
 -- What a session calls keeps to the limits of a call.
-use Rattle.std.proofs.Common.{◌≡◌, ◌⊎◌, inl, inr, ℕ, ◌+◌, ◌<◌, ◌≤◌, Bool, true, false, cond, nat_lt, List, [], ◌∷◌, ◌++◌, length, refl, sym, ap, subst, ◌∙◌, arith, rules, tests}
+use Rattle.std.proofs.Common.{◌≡◌, ◌+◌, ◌≤◌, Bool, true, false, cond, nat_lt, List, [], ◌∷◌, ◌++◌, length, refl, sym, subst, codes, arith, rules, tests}
 use Rattle.std.specs.Prelude.{Option, Some, None}
 use Rattle.std.specs.List.{AllByRecursion}
 use Rattle.df_model.specs.Values.{Bytes}
-use Rattle.df_model.specs.Words.{Words, is_name}
-use Rattle.df_model.specs.Reads.{Reading, linked, reads_linked, reads_by, counted}
-use Rattle.df_model.specs.Reads.Shapes.{Row, Shape, key, set, ping, set_by, guards}
-use Rattle.df_model.specs.Framing.{IsWord, IsRequest}
-use Rattle.df_model.specs.Session.{State, Step, Heard, Given, Control, heard, heard_as, given, machine, ready_step, queueing_step, append, execute, saves, session_step, without_memory, MAX_QUEUED}
+use Rattle.df_model.specs.Words.{Words, is_name, same}
+use Rattle.df_model.specs.Reads.{Reading, linked, reads, reads_linked, saves}
+use Rattle.df_model.specs.Framing.{IsRequest}
+use Rattle.df_model.specs.Session.{State, Step, Heard, Given, Control, ControlShape, ControlRow, controls, shutdown, heard, heard_as, heard_counted, heard_by, given, machine, ready_step, queueing_step, append, execute, session_step, without_memory, MAX_QUEUED}
 use Rattle.df_model.specs.Calls.{HasWords, MayQueue, IsCall}
 use Rattle.df_model.specs.History.{Item}
 use Rattle.df_model.specs.Output.{Walk, SessionOutput}
 use Rattle.df_model.specs.Laws.{SessionsCall}
+use Rattle.df_model.proofs.WordLaws.{reads_keep}
 use Rattle.df_model.specs.declared.session.Why.{Why}
-use Rattle.df_model.specs.declared.command.OneOp.{OneOp}
-use Rattle.df_model.specs.declared.command.OneOp.TheVariants.{Get, Set}
-use Rattle.df_model.specs.declared.command.Guard.{Guard}
-use Rattle.df_model.specs.declared.command.Guard.TheVariants.{Always}
-use Rattle.df_model.specs.declared.command.PlainOp.{PlainOp}
-use Rattle.df_model.specs.declared.command.PlainOp.TheVariants.{Ping}
 use Rattle.df_model.specs.declared.command.Command.{Command}
 use Rattle.df_model.specs.declared.command.Command.TheVariants.{Plain, One, Many, Whole, Wrong}
 use Rattle.df_model.specs.declared.command.Call.{Call}
@@ -26,55 +20,6 @@ use Rattle.df_model.specs.declared.command.Call.TheVariants.{Single, Exec}
 use Rattle.df_model.specs.declared.reply.ErrorText.TheVariants as errors
 use Rattle.df_model.specs.declared.reply.Reply.{Reply}
 use Rattle.df_model.specs.declared.reply.Reply.TheVariants.{Error}
-
--- ---- words: a row makes a command of the words that it is given
-
-abbrev KeepsWords : Shape → Type 0
-KeepsWords shape = (words : Words) (command : Command) → AllByRecursion IsWord words → shape words ≡ Some command → HasWords command
-
-some_injective : {A : Type 0} (x y : A) → Option.Some x ≡ Some y → x ≡ y
-some_injective x y e = cc
-
-key_keeps : KeepsWords (key Get)
-key_keeps [] command all e = cc
-key_keeps (k ∷ []) command all e = subst HasWords (some_injective _ command e) all
-key_keeps (k ∷ a ∷ more) command all e = cc
-
-set_by_keeps : (k bytes : Bytes) (guard : Option Guard) → IsWord k → IsWord bytes → HasWords (set_by k bytes guard)
-set_by_keeps k bytes None a b = tt
-set_by_keeps k bytes (Some guard) a b = (a, (b, tt))
-
-set_keeps : KeepsWords set
-set_keeps [] command all e = cc
-set_keeps (k ∷ []) command all e = cc
-set_keeps (k ∷ bytes ∷ options) command all e =
-    subst HasWords (some_injective _ command e) (set_by_keeps k bytes (guards (Some Always) options) all.0 all.1.0)
-
-ping_keeps : KeepsWords ping
-ping_keeps [] command all e = subst HasWords (some_injective _ command e) tt
-ping_keeps (message ∷ []) command all e = subst HasWords (some_injective _ command e) all
-ping_keeps (a ∷ b ∷ more) command all e = cc
-
-linked_keep : AllByRecursion (λ r. KeepsWords r.shape) linked
-linked_keep = (key_keeps, (set_keeps, (ping_keeps, tt)))
-
-runs_injective : (x y : Command) → Reading.Runs x ≡ Reading.Runs y → x ≡ y
-runs_injective x y e = cc
-
-counted_keeps : (name : Bytes) (found : Option Command) (command : Command) → ((c : Command) → found ≡ Some c → HasWords c) → counted name found ≡ Reading.Runs command → HasWords command
-counted_keeps name None command h e = cc
-counted_keeps name (Some c) command h e = h command (ap Some (runs_injective c command e))
-
-by_name : (b : Bool) (one other : Reading) (command : Command) → (one ≡ Reading.Runs command → HasWords command) → (other ≡ Reading.Runs command → HasWords command) → cond b one other ≡ Reading.Runs command → HasWords command
-by_name true one other command h g e = h e
-by_name false one other command h g e = g e
-
-reads_keep : (rs : List Row) (name : Bytes) (words : Words) (command : Command) → AllByRecursion (λ r. KeepsWords r.shape) rs → AllByRecursion IsWord words → reads_by rs name words ≡ Reading.Runs command → HasWords command
-reads_keep [] name words command keep all e = cc
-reads_keep (r ∷ rs) name words command keep all e =
-    by_name (is_name name r.name) (counted r.name (r.shape words)) (reads_by rs name words) command
-    (counted_keeps r.name (r.shape words) command (λ c. keep.0 words c all))
-    (reads_keep rs name words command keep.1 all) e
 
 -- ---- states and steps
 
@@ -97,14 +42,47 @@ Calls Given.Leaves = Unit {0}
 abbrev StepKeeps : Step → Type 0
 StepKeeps step = Calls step.0 × IsSound step.1
 
-heard_keeps : (reading : Reading) → ((command : Command) → reading ≡ Reading.Runs command → HasWords command) → Keeps (heard_as reading)
-heard_keeps (Reading.Runs command) h = h command refl
-heard_keeps Reading.Unknown h = tt
-heard_keeps (Reading.Arity name) h = tt
+either : (b : Bool) (reading : Reading) → Keeps (heard_as reading) → Keeps (heard_as (cond b Reading.Unknown reading))
+either true reading h = tt
+either false reading h = h
+
+reading_keeps : (reading : Reading) → ((command : Command) → reading ≡ Reading.Runs command → HasWords command) → Keeps (heard_as (linked reading))
+reading_keeps (Reading.Runs command) h = either (saves command) (Reading.Runs command) (h command refl)
+reading_keeps Reading.Unknown h = tt
+reading_keeps (Reading.Arity name) h = either (same name (codes "save")) (Reading.Arity name) tt
+
+abbrev KeepsFound : Option Heard → Type 0
+KeepsFound None = Unit {0}
+KeepsFound (Some request) = Keeps request
+
+-- whatever words stand behind a control word
+abbrev Controls : ControlShape → Type 0
+Controls shape = (words : Words) → KeepsFound (shape words)
+
+counted_keeps : (name : Bytes) (found : Option Heard) → KeepsFound found → Keeps (heard_counted name found)
+counted_keeps name None h = tt
+counted_keeps name (Some request) h = h
+
+one_of : (b : Bool) (one other : Heard) → Keeps one → Keeps other → Keeps (cond b one other)
+one_of true one other p q = p
+one_of false one other p q = q
+
+shutdown_keeps : Controls shutdown
+shutdown_keeps [] = tt
+shutdown_keeps (word ∷ []) = one_of (is_name word (codes "nosave")) (Heard.Controls Control.Shutdown) (Heard.Spoken (Wrong errors.Syntax)) tt tt
+shutdown_keeps (a ∷ b ∷ more) = tt
+
+heard_by_keeps : (rs : List ControlRow) (name : Bytes) (words : Words) (other : Heard) → AllByRecursion (λ r. Controls r.shape) rs → Keeps other → Keeps (heard_by rs name words other)
+heard_by_keeps [] name words other all has = has
+heard_by_keeps (r ∷ rs) name words other all has =
+    one_of (is_name name r.name) (heard_counted r.name (r.shape words)) (heard_by rs name words other)
+    (counted_keeps r.name (r.shape words) (all.0 words)) (heard_by_keeps rs name words other all.1 has)
 
 request_keeps : (words : Words) → IsRequest words → Keeps (heard words)
 request_keeps [] is = tt
-request_keeps (name ∷ words) is = heard_keeps (reads_linked (name ∷ words)) (λ command e. reads_keep linked name words command linked_keep is.each.1 e)
+request_keeps (name ∷ words) is =
+    heard_by_keeps controls name words (heard_as (reads_linked (name ∷ words))) ((λ ws. tt), (shutdown_keeps, tt))
+    (reading_keeps (reads (name ∷ words)) (λ command e. reads_keep (name ∷ words) command is.each e))
 
 given_keeps : (command : Command) → HasWords command → Calls (given command)
 given_keeps (Plain op) has = tt

@@ -135,6 +135,24 @@ get_is_a_call = refl
 a_command_is_queued : session_step (State.Queueing [] false) (codes "GET" ∷ codes "a" ∷ []) ≡ (Given.Replies (Simple (codes "QUEUED")), State.Queueing (One (codes "a") Get ∷ []) false)
 a_command_is_queued = refl
 
+quit_parts : session_step State.Ready (codes "Quit" ∷ codes "now" ∷ []) ≡ (Given.Parts (Simple (codes "OK")), State.Ready)
+quit_parts = refl
+
+shutdown_leaves : session_step State.Ready (codes "SHUTDOWN" ∷ codes "nosave" ∷ []) ≡ (Given.Leaves, State.Ready)
+shutdown_leaves = refl
+
+shutdown_with_another_word : session_step State.Ready (codes "SHUTDOWN" ∷ codes "SAVE" ∷ []) ≡ (Given.Replies (Error errors.Syntax), State.Ready)
+shutdown_with_another_word = refl
+
+shutdown_with_two_words : session_step State.Ready (codes "shutdown" ∷ codes "a" ∷ codes "b" ∷ []) ≡ (Given.Replies (Error (errors.Arity (codes "shutdown"))), State.Ready)
+shutdown_with_two_words = refl
+
+save_is_unknown_so_far : session_step State.Ready (codes "SAVE" ∷ []) ≡ (Given.Replies (Error errors.Unknown), State.Ready)
+save_is_unknown_so_far = refl
+
+save_with_a_word_is_unknown_too : session_step State.Ready (codes "SAVE" ∷ codes "now" ∷ []) ≡ (Given.Replies (Error errors.Unknown), State.Ready)
+save_with_a_word_is_unknown_too = refl
+
 -- ---- shards: with four of them a stands on 0, b on 1, c on 2, d and x on 3, y on 0, z on 1
 
 shard_of_a : shard_of (codes "a") 4 ≡ 0

@@ -1,5 +1,7 @@
 pub mod FramingLaws
 pub mod LocalityLaws
+mod WordLaws
 pub mod CallLaws
+pub mod EncodingLaws
 mod Examples
 mod PatternExamples

@@ -8,7 +8,8 @@ use Rattle.df_model.specs.Outcomes.{ok}
 use Rattle.df_model.specs.Access.{Meaning}
 use Rattle.df_model.specs.Meaning.{meaning}
 use Rattle.df_model.specs.Framing.{IsWord}
-use Rattle.df_model.specs.Session.{MAX_QUEUED, saves}
+use Rattle.df_model.specs.Reads.{saves}
+use Rattle.df_model.specs.Session.{MAX_QUEUED}
 use Rattle.df_model.specs.Spared.{all_of}
 use Rattle.df_model.specs.declared.command.PlainOp.{PlainOp}
 use Rattle.df_model.specs.declared.command.PlainOp.TheVariants as plains

@@ -9,6 +9,7 @@ pub mod Patterns
 pub mod Members
 pub mod Reads
 pub mod Outcomes
+pub mod Families
 pub mod Access
 pub mod Meaning
 pub mod Replies

@@ -20,6 +20,11 @@ pub data KeyRow : Type 0 where
   Looks : (Option Value → Reply) → KeyRow
   Changes : (Option Value → Outcome) → KeyRow
 
+-- what a row gives where the key holds this
+abbrev pub outcome : KeyRow → Option Value → Outcome
+outcome (KeyRow.Looks row) held = (row held, Change.Keep)
+outcome (KeyRow.Changes row) held = row held
+
 -- what the key holds then
 abbrev pub settled : Change → Option Value → Option Value
 settled Change.Keep held = held

@@ -6,20 +6,19 @@ pub mod Strings
 pub mod Lists
 pub mod Hashes
 pub mod Sets
-use Rattle.std.specs.Prelude.{List, [], ◌∷◌, ◌++◌, Option, Some, None, codes, if◌then◌else◌}
+use Rattle.std.specs.Prelude.{◌≡◌, List, [], ◌∷◌, ◌++◌, Option, Some, None, Bool, true, false, codes, if◌then◌else◌}
 use Rattle.df_model.specs.Values.{Bytes}
-use Rattle.df_model.specs.Words.{Words, is_name}
-use Rattle.df_model.specs.Reads.Shapes.{Row, row, key, set, ping}
+use Rattle.df_model.specs.Words.{Words, is_name, same}
+use Rattle.df_model.specs.Reads.Shapes.{Row}
 use Rattle.df_model.specs.Reads.Keyless as keyless
 use Rattle.df_model.specs.Reads.Any as any
 use Rattle.df_model.specs.Reads.Strings as strings
 use Rattle.df_model.specs.Reads.Lists as lists
 use Rattle.df_model.specs.Reads.Hashes as hashes
 use Rattle.df_model.specs.Reads.Sets as sets
-use Rattle.df_model.specs.declared.command.PlainOp.TheVariants.{Ping}
-use Rattle.df_model.specs.declared.command.OneOp.TheVariants.{Get, Set}
+use Rattle.df_model.specs.declared.command.WholeOp.TheVariants.{Dbsize, Keys, Flushall, Flushdb, Save}
 use Rattle.df_model.specs.declared.command.Command.{Command}
-use Rattle.df_model.specs.declared.command.Command.TheVariants.{Plain, One, Wrong}
+use Rattle.df_model.specs.declared.command.Command.TheVariants.{Plain, One, Many, Whole, Wrong}
 
 -- what words spell
 pub data Reading : Type 0 where
@@ -68,22 +67,26 @@ rows = from_strings
 abbrev pub reads : Words → Reading
 reads = reads_in rows
 
--- ---- the rows whose commands run: any other name is unknown to a session so far
+-- ---- the commands that run so far: all but SAVE, which is an unknown name to a session
 
-abbrev pub linked : List Row
-linked =
-    row (codes "get") (key Get) ∷
-    row (codes "set") set ∷
-    row (codes "ping") ping ∷
-    []
+abbrev pub saves : Command → Bool
+saves (Whole Save) = true
+saves (Whole Dbsize) = false
+saves (Whole (Keys pattern)) = false
+saves (Whole Flushall) = false
+saves (Whole Flushdb) = false
+saves (Plain op) = false
+saves (One k op) = false
+saves (Many op) = false
+saves (Wrong error) = false
+
+abbrev pub linked : Reading → Reading
+linked (Reading.Runs command) = if saves command then Reading.Unknown else Reading.Runs command
+linked Reading.Unknown = Reading.Unknown
+linked (Reading.Arity name) = if same name (codes "save") then Reading.Unknown else Reading.Arity name
 
 abbrev pub reads_linked : Words → Reading
-reads_linked = reads_in linked
+reads_linked words = linked (reads words)
 
--- the commands that these rows spell
 abbrev pub IsLinked : Command → Type 0
-IsLinked (Plain (Ping message)) = Unit {0}
-IsLinked (One k Get) = Unit {0}
-IsLinked (One k (Set bytes guard)) = Unit {0}
-IsLinked (Wrong error) = Unit {0}
-IsLinked command = ⊥
+IsLinked command = saves command ≡ false

@@ -1,13 +1,13 @@
 -- The session machine: what a request gives in a state, and the state after it.
-use Rattle.std.specs.Prelude.{ℕ, nat_lt, List, [], ◌∷◌, ◌++◌, length, Bool, true, false, codes, if◌then◌else◌}
-use Rattle.df_model.specs.Words.{Words}
+use Rattle.std.specs.Prelude.{ℕ, nat_lt, List, [], ◌∷◌, ◌++◌, length, Option, Some, None, Bool, true, false, codes, if◌then◌else◌}
+use Rattle.df_model.specs.Values.{Bytes}
+use Rattle.df_model.specs.Words.{Words, is_name}
 use Rattle.df_model.specs.Spared.{all_of}
-use Rattle.df_model.specs.Reads.{Reading, reads_linked}
+use Rattle.df_model.specs.Reads.{Reading, reads_linked, saves}
 use Rattle.df_model.specs.Outcomes.{ok}
 use Rattle.df_model.specs.Meaning.{plain}
 use Rattle.df_model.specs.declared.command.Command.{Command}
 use Rattle.df_model.specs.declared.command.Command.TheVariants.{Plain, One, Many, Whole, Wrong}
-use Rattle.df_model.specs.declared.command.WholeOp.TheVariants.{Dbsize, Keys, Flushall, Flushdb, Save}
 use Rattle.df_model.specs.declared.command.Call.{Call}
 use Rattle.df_model.specs.declared.command.Call.TheVariants as calls
 use Rattle.df_model.specs.declared.reply.ErrorText.{ErrorText}
@@ -48,14 +48,50 @@ pub data Given : Type 0 where
 abbrev pub Step : Type 0
 Step = Given × State
 
--- no control name is linked so far, so each is an unknown name
+-- ---- the words that speak to the session itself, a row each; of these QUIT and SHUTDOWN run so far
+
+-- how the words behind the name are heard, or None at a wrong count of words
+abbrev pub ControlShape : Type 0
+ControlShape = Words → Option Heard
+
+pub record ControlRow : Type 0 where
+  pub name : Bytes
+  pub shape : ControlShape
+
+-- whatever words stand behind it
+abbrev pub quit : ControlShape
+quit words = Some (Heard.Controls Control.Quit)
+
+abbrev pub shutdown : ControlShape
+shutdown [] = Some (Heard.Controls Control.Shutdown)
+shutdown (word ∷ []) = Some (if is_name word (codes "nosave") then Heard.Controls Control.Shutdown else Heard.Spoken (Wrong errors.Syntax))
+shutdown (a ∷ b ∷ more) = None
+
+abbrev pub controls : List ControlRow
+controls =
+    record { name = codes "quit"; shape = quit } ∷
+    record { name = codes "shutdown"; shape = shutdown } ∷
+    []
+
+-- ---- requests, as they are heard
+
 abbrev pub heard_as : Reading → Heard
 heard_as (Reading.Runs command) = Heard.Spoken command
 heard_as Reading.Unknown = Heard.Refused errors.Unknown
 heard_as (Reading.Arity name) = Heard.Refused (errors.Arity name)
 
+abbrev pub heard_counted : Bytes → Option Heard → Heard
+heard_counted name None = Heard.Refused (errors.Arity name)
+heard_counted name (Some request) = request
+
+-- by the first row with this name, or else as a command
+abbrev pub heard_by : List ControlRow → Bytes → Words → Heard → Heard
+heard_by [] name words other = other
+heard_by (r ∷ rs) name words other = if is_name name r.name then heard_counted r.name (r.shape words) else heard_by rs name words other
+
 abbrev pub heard : Words → Heard
-heard words = heard_as (reads_linked words)
+heard [] = heard_as (reads_linked [])
+heard (name ∷ words) = heard_by controls name words (heard_as (reads_linked (name ∷ words)))
 
 -- a command outside a transaction: one that needs no keyspace is answered at once
 abbrev pub given : Command → Given
@@ -77,18 +113,6 @@ ready_step (Heard.Refused error) = (Given.Replies (Error error), State.Ready)
 abbrev pub queued : Reply
 queued = Simple (codes "QUEUED")
 
--- SAVE can't be part of a transaction
-abbrev pub saves : Command → Bool
-saves (Whole Save) = true
-saves (Whole Dbsize) = false
-saves (Whole (Keys pattern)) = false
-saves (Whole Flushall) = false
-saves (Whole Flushdb) = false
-saves (Plain op) = false
-saves (One key op) = false
-saves (Many op) = false
-saves (Wrong error) = false
-
 abbrev pub append : List Command → Bool → Command → Step
 append commands broken command =
     if nat_lt (length commands) MAX_QUEUED then (Given.Replies queued, State.Queueing (commands ++ command ∷ []) broken)
@@ -98,6 +122,7 @@ abbrev pub execute : List Command → Bool → Step
 execute commands true = (Given.Replies (Error errors.Aborted), State.Ready)
 execute commands false = (Given.Calls (calls.Exec (all_of commands)), State.Ready)
 
+-- SAVE can't be part of a transaction
 abbrev pub queueing_step : List Command → Bool → Heard → Step
 queueing_step commands broken (Heard.Spoken command) = if saves command then (Given.Replies (Error errors.NotInside), State.Queueing commands true) else append commands broken command
 queueing_step commands broken (Heard.Controls Control.Multi) = (Given.Replies (Error errors.Nested), State.Queueing commands broken)

@@ -4,6 +4,9 @@
 //! specs/Meaning; how the words of a request spell it stands in specs/Reads. A variant is its name in
 //! lower case with a capital; TYPE alone is `KindOf`. The fields are the further words in their order.
 
+ghost use Rattle.std.specs.Prelude.{◌≡◌};
+ghost use Rattle.df_model.specs.Families.{family_of};
+
 use crate::{Bin, Bins, ErrorText, Pairs, Reserved};
 
 /// Which kind of value a key holds.
@@ -35,6 +38,16 @@ pub enum Beside {
 pub enum Side {
     Left,
     Right,
+}
+
+/// What the commands of one key are about: any kind of value, or one kind.
+#[derive(Clone, Copy, Debug, PartialEq, Eq)]
+pub enum Family {
+    Any,
+    Strings,
+    Lists,
+    Hashes,
+    Sets,
 }
 
 /// Commands that need no keyspace. They are answered at once and take no number.
@@ -96,6 +109,62 @@ pub enum OneOp {
     Sismember(Bin),
     Smismember(Bins),
     Smembers,
+}
+
+impl OneOp {
+    /// The family, each of which has a crate of its own above.
+    pub fn family(&self) -> Family
+        ensures { result ≡ family_of self.now }
+    {
+        match self {
+            OneOp::KindOf => Family::Any,
+            OneOp::Get
+            | OneOp::Set(_, _)
+            | OneOp::Setnx(_)
+            | OneOp::Getset(_)
+            | OneOp::Getdel
+            | OneOp::Append(_)
+            | OneOp::Strlen
+            | OneOp::Getrange(_, _)
+            | OneOp::Setrange(_, _)
+            | OneOp::Incr
+            | OneOp::Decr
+            | OneOp::Incrby(_)
+            | OneOp::Decrby(_) => Family::Strings,
+            OneOp::Lpush(_)
+            | OneOp::Rpush(_)
+            | OneOp::Lpushx(_)
+            | OneOp::Rpushx(_)
+            | OneOp::Lpop(_)
+            | OneOp::Rpop(_)
+            | OneOp::Llen
+            | OneOp::Lrange(_, _)
+            | OneOp::Lindex(_)
+            | OneOp::Lset(_, _)
+            | OneOp::Linsert(_, _, _)
+            | OneOp::Lrem(_, _)
+            | OneOp::Ltrim(_, _) => Family::Lists,
+            OneOp::Hset(_)
+            | OneOp::Hmset(_)
+            | OneOp::Hsetnx(_, _)
+            | OneOp::Hget(_)
+            | OneOp::Hmget(_)
+            | OneOp::Hdel(_)
+            | OneOp::Hlen
+            | OneOp::Hexists(_)
+            | OneOp::Hstrlen(_)
+            | OneOp::Hkeys
+            | OneOp::Hvals
+            | OneOp::Hgetall
+            | OneOp::Hincrby(_, _) => Family::Hashes,
+            OneOp::Sadd(_)
+            | OneOp::Srem(_)
+            | OneOp::Scard
+            | OneOp::Sismember(_)
+            | OneOp::Smismember(_)
+            | OneOp::Smembers => Family::Sets,
+        }
+    }
 }
 
 /// Commands that name several keys, or may do so.

@@ -17,7 +17,7 @@ mod tests;
 
 pub use bin::{Bin, NoMemory};
 pub use command::{
-    Beside, Call, Command, Commands, Guard, Kind, ManyOp, OneOp, PlainOp, Side, WholeOp,
+    Beside, Call, Command, Commands, Family, Guard, Kind, ManyOp, OneOp, PlainOp, Side, WholeOp,
 };
 pub use keys::{KeyModes, Keys, Mode};
 pub use reply::{ErrorText, Replies, Reply};

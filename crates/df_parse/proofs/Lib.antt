@@ -1,2 +1,1 @@
 mod PartLaws
-mod LinkedLaws

@@ -29,7 +29,7 @@ fn words_spell_commands(rt: HostRuntime) -> Result<(), NoMemory> {
 }
 
 #[test]
-fn few_commands_run_so_far(rt: HostRuntime) -> Result<(), NoMemory> {
+fn all_commands_but_save_run_so_far(rt: HostRuntime) -> Result<(), NoMemory> {
     let table = [
         ("GET k", "one key"),
         ("Get", "wrong count"),
@@ -37,8 +37,10 @@ fn few_commands_run_so_far(rt: HostRuntime) -> Result<(), NoMemory> {
         ("SET k v NX XX", "wrong syntax"),
         ("ping", "plain"),
         ("PING a b", "wrong count"),
-        ("INCR k", "unknown"),
-        ("DEL k", "unknown"),
+        ("INCR k", "one key"),
+        ("DEL k", "several keys"),
+        ("SAVE", "unknown"),
+        ("save now", "unknown"),
     ];
     for (request, wanted) in table {
         let words = words_of(rt.alloc(), request)?;

@@ -1,5 +1,4 @@
 pub mod CountLaws
-pub mod EncodingLaws
 pub mod FrameLaws
 pub mod FramedLaws
 pub mod HeadLaws

@@ -3,9 +3,10 @@
 //! Each call appends a whole reply or nothing. Callers that have a reply's parts give them as they are,
 //! so that no `Reply` is made of them.
 
-ghost use Rattle.std.specs.Prelude.{◌≡◌, ◌++◌, ◌≤◌, length, decimal, codes, OnOk, OnErr};
+ghost use Rattle.std.specs.Prelude.{◌≡◌, ◌++◌, ◌≤◌, length, decimal, codes, pos, OnOk, OnErr};
+ghost use Rattle.std.specs.Fmt.{signed_decimal};
 ghost use Rattle.df_model.specs.Replies.{encoding_of, crlf, text_of, protocol_error};
-ghost use Rattle.df_model.specs.declared.reply.Reply.TheVariants.{Simple, Error as ErrorReply, Bulk, NullBulk};
+ghost use Rattle.df_model.specs.declared.reply.Reply.TheVariants.{Simple, Error as ErrorReply, Int, Bulk, NullBulk, NullArray};
 ghost use Rattle.df_resp.specs.Appended.{GrowsBy};
 
 use df_model::{BadKind, ErrorText, NoMemory, Reply};
@@ -75,6 +76,54 @@ pub fn encode_null(to: &mut Vec<u8>) -> Result<(), NoMemory>
     Ok(())
 }
 
+/// Appends what stands for an array that isn't there.
+pub fn encode_null_array(to: &mut Vec<u8>) -> Result<(), NoMemory>
+    ensures ok { OnOk result (to.new.items ≡ to.old.items ++ encoding_of NullArray) }
+    ensures err { OnErr result (to.new.items ≡ to.old.items) }
+{
+    to.extend_from_slice(b"*-1\r\n")?;
+    Ok(())
+}
+
+/// Appends a number.
+pub fn encode_int(n: i64, to: &mut Vec<u8>) -> Result<(), NoMemory>
+    ensures ok { OnOk result (to.new.items ≡ to.old.items ++ encoding_of (Int n)) }
+    ensures err { OnErr result (to.new.items ≡ to.old.items) }
+{
+    let len = to.len();
+    if let Err(refused) = push_int(n, to) {
+        to.truncate(len);
+        return Err(refused);
+    }
+    Ok(())
+}
+
+/// Appends a count, as a number.
+pub fn encode_count(n: usize, to: &mut Vec<u8>) -> Result<(), NoMemory>
+    ensures ok { OnOk result (to.new.items ≡ to.old.items ++ encoding_of (Int (pos n))) }
+    ensures err { OnErr result (to.new.items ≡ to.old.items) }
+{
+    let len = to.len();
+    if let Err(refused) = push_count(b":", n, to) {
+        to.truncate(len);
+        return Err(refused);
+    }
+    Ok(())
+}
+
+/// Appends the line before the replies of an array, which says how many follow.
+pub fn encode_array_head(n: usize, to: &mut Vec<u8>) -> Result<(), NoMemory>
+    ensures ok { OnOk result (to.new.items ≡ to.old.items ++ (codes "*" ++ decimal n ++ crlf)) }
+    ensures err { OnErr result (to.new.items ≡ to.old.items) }
+{
+    let len = to.len();
+    if let Err(refused) = push_count(b"*", n, to) {
+        to.truncate(len);
+        return Err(refused);
+    }
+    Ok(())
+}
+
 /// Appends the last line of a session whose input is bad.
 pub fn encode_protocol_error(kind: BadKind, to: &mut Vec<u8>) -> Result<(), NoMemory>
     ensures ok { OnOk result (to.new.items ≡ to.old.items ++ protocol_error kind) }
@@ -102,10 +151,7 @@ fn push_reply(reply: &Reply, to: &mut Vec<u8>) -> Result<(), NoMemory>
     match reply {
         Reply::Simple(text) => push_line(b"+", text.as_slice(), to),
         Reply::Error(error) => push_error(error, to),
-        Reply::Int(n) => {
-            let mut buffer = Buffer::new();
-            push_line(b":", buffer.format(*n).as_bytes(), to)
-        }
+        Reply::Int(n) => push_int(*n, to),
         Reply::Bulk(bytes) => push_bulk(bytes.as_slice(), to),
         Reply::NullBulk => push_line(b"$", b"-1", to),
         Reply::NullArray => push_line(b"*", b"-1", to),
@@ -129,6 +175,14 @@ fn push_bulk(bytes: &[u8], to: &mut Vec<u8>) -> Result<(), NoMemory>
     to.extend_from_slice(bytes)?;
     to.extend_from_slice(b"\r\n")?;
     Ok(())
+}
+
+fn push_int(n: i64, to: &mut Vec<u8>) -> Result<(), NoMemory>
+    ensures ok { OnOk result (to.new.items ≡ to.old.items ++ (codes ":" ++ signed_decimal n ++ crlf)) }
+    ensures err { OnErr result (GrowsBy to.old.items to.new.items) }
+{
+    let mut buffer = Buffer::new();
+    push_line(b":", buffer.format(n).as_bytes(), to)
 }
 
 fn push_count(mark: &[u8], n: usize, to: &mut Vec<u8>) -> Result<(), NoMemory>

@@ -16,6 +16,7 @@ mod reader;
 mod tests;
 
 pub use encoder::{
-    encode, encode_bulk, encode_error, encode_null, encode_protocol_error, encode_simple,
+    encode, encode_array_head, encode_bulk, encode_count, encode_error, encode_int, encode_null,
+    encode_null_array, encode_protocol_error, encode_simple,
 };
 pub use reader::{Next, Reader};

@@ -37,7 +37,7 @@ changes row (Some (Value.Hash fields)) = refused errors.WrongKind
 changes row (Some (Value.Set members)) = refused errors.WrongKind
 
 -- a missing key counts as the empty string
-abbrev bytes_of : Option Bytes → Bytes
+abbrev pub bytes_of : Option Bytes → Bytes
 bytes_of None = []
 bytes_of (Some bytes) = bytes
 
@@ -80,7 +80,7 @@ abbrev pub getrange : ℤ → ℤ → Option Bytes → Reply
 getrange from to old = Bulk (ranged from to (bytes_of old))
 
 -- zero bytes fill up to the place, and the new bytes are written over what stands there
-abbrev overwritten : ℕ → Bytes → Bytes → Bytes
+abbrev pub overwritten : ℕ → Bytes → Bytes → Bytes
 overwritten at new old = take at (old ++ replicate (at - length old) 0) ++ new ++ drop (at + length new) old
 
 -- nothing to write leaves the key, also a missing one

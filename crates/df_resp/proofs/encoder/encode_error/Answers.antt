@@ -1,5 +1,5 @@
 use Rattle.std.proofs.Common.{◌++◌, ap, sym, ◌∙◌}
-use Rattle.df_resp.proofs.EncodingLaws.{error_is}
+use Rattle.df_model.proofs.EncodingLaws.{error_is}
 use Rattle.df_resp.proofs.encoder.encode_error.Goals as goal
 
 pub returns-clause-ok : goal.returns-clause-ok

@@ -1,5 +1,12 @@
-use Rattle.df_resp.proofs.EncodingLaws.{arity_is}
+use Rattle.std.proofs.Common.{◌≡◌, ◌++◌, codes, ap, ◌∙◌, append_assoc}
+use Rattle.df_model.specs.Values.{Bytes}
+use Rattle.df_model.specs.Replies.{crlf}
 use Rattle.df_resp.proofs.encoder.push_arity.Goals as goal
+
+arity_is : (old name a b c d : Bytes) → a ≡ old ++ codes "-ERR wrong number of arguments for '" → b ≡ a ++ name → c ≡ b ++ codes "' command" → d ≡ c ++ crlf → d ≡ old ++ (codes "-" ++ (codes "ERR wrong number of arguments for '" ++ name ++ codes "' command") ++ crlf)
+arity_is old name a b c d is_a is_b is_c is_d =
+    let whole : d ≡ (((old ++ codes "-ERR wrong number of arguments for '") ++ name) ++ codes "' command") ++ crlf = is_d ∙ ap (λ x. x ++ crlf) (is_c ∙ ap (λ x. x ++ codes "' command") (is_b ∙ ap (λ x. x ++ name) is_a)) in
+    whole ∙ simp append_assoc
 
 pub returns-clause-ok : goal.returns-clause-ok
 returns-clause-ok c =
