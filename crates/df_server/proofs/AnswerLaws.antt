@@ -1,5 +1,5 @@
 -- What a request is answered, from the rows of the commands.
-use Rattle.std.proofs.Common.{◌≡◌, inl, true, false, cond, [], ◌∷◌, ◌++◌, refl, sym, ap, subst, ◌∙◌}
+use Rattle.std.proofs.Common.{◌≡◌, inl, inr, true, false, cond, [], ◌∷◌, ◌++◌, refl, sym, ap, subst, ◌∙◌}
 use Rattle.std.specs.Prelude.{Option, Some, None}
 use Rattle.std.specs.Ordering.{nat_cmp, is_eq}
 use Rattle.std.specs.declared.cmp.Ordering.{Ordering}
@@ -9,12 +9,12 @@ use Rattle.std.specs.FinMap.{get-insert, get-remove, same_map, slice_cmp-IsAntis
 use Rattle.df_model.specs.Values.{Bytes, Value}
 use Rattle.df_model.specs.Words.{Words}
 use Rattle.df_model.specs.Keyspace.{Keyspace, held, with_held}
-use Rattle.df_model.specs.Reads.{Reading, reads_linked}
+use Rattle.df_model.specs.Reads.{Reading}
 use Rattle.df_model.specs.Outcomes.{Outcome, Change, ok, settled}
 use Rattle.df_model.specs.Meaning.{meaning}
 use Rattle.df_model.specs.Meaning.Strings as strings
 use Rattle.df_model.specs.Replies.{encoding_of}
-use Rattle.df_model.specs.Session.{State, given, heard_as, ready_step, session_step}
+use Rattle.df_model.specs.Session.{Given, given, heard_as, ready_step}
 use Rattle.df_model.proofs.LocalityLaws.{reads_one, writes_one}
 use Rattle.df_model.specs.declared.command.OneOp.TheVariants.{Get, Set}
 use Rattle.df_model.specs.declared.command.Guard.{Guard}
@@ -24,7 +24,7 @@ use Rattle.df_model.specs.declared.command.Command.{Command}
 use Rattle.df_model.specs.declared.command.Command.TheVariants.{Plain, One, Many, Whole, Wrong}
 use Rattle.df_model.specs.declared.reply.ErrorText.TheVariants as errors
 use Rattle.df_model.specs.declared.reply.Reply.TheVariants.{Error, NullBulk}
-use Rattle.df_server.specs.Answers.{Replied}
+use Rattle.df_server.specs.Answers.{Answers, Replied}
 use Rattle.df_server.specs.Responses.{response, Gives, guard_allows}
 
 -- ---- requests
@@ -42,13 +42,24 @@ ran (Whole wholes.Save) K after old new g = record { answer = ok; answers = inl 
 ran (Wrong error) K after old new g = record { answer = Error error; answers = (inl refl, g.leaves); added = g.adds }
 
 -- what a request is answered where memory suffices
-pub answered : (words : Words) (K after : Keyspace) (old new : Bytes) → Gives (response (reads_linked words) K) after old new → Replied (session_step State.Ready words).0 K after old new
-answered words K after old new g = by (reads_linked words) g
-  where
-    by : (r : Reading) → Gives (response r K) after old new → Replied (ready_step (heard_as r)).0 K after old new
-    by (Reading.Runs command) g = ran command K after old new g
-    by Reading.Unknown g = record { answer = Error errors.Unknown; answers = (inl refl, g.leaves); added = g.adds }
-    by (Reading.Arity name) g = record { answer = Error (errors.Arity name); answers = (inl refl, g.leaves); added = g.adds }
+pub answered : (reading : Reading) (K after : Keyspace) (old new : Bytes) → Gives (response reading K) after old new → Replied (ready_step (heard_as reading)).0 K after old new
+answered (Reading.Runs command) K after old new g = ran command K after old new g
+answered Reading.Unknown K after old new g = record { answer = Error errors.Unknown; answers = (inl refl, g.leaves); added = g.adds }
+answered (Reading.Arity name) K after old new g = record { answer = Error (errors.Arity name); answers = (inl refl, g.leaves); added = g.adds }
+
+memory_answers : (given : Given) (K after : Keyspace) → after ≡ K → Answers given K (Error errors.Memory) after
+memory_answers (Given.Replies reply) K after e = (inr refl, e)
+memory_answers (Given.Calls call) K after e = inr (refl, e)
+memory_answers (Given.Parts reply) K after e = (refl, e)
+memory_answers Given.Leaves K after e = (refl, e)
+
+-- any request may be answered want of memory, and then changes nothing
+pub without_memory : (given : Given) (K after : Keyspace) (old middle new : Bytes) → after ≡ K → middle ≡ old → new ≡ middle ++ encoding_of (Error errors.Memory) → Replied given K after old new
+without_memory given K after old middle new keys out added = record {
+  answer = Error errors.Memory;
+  answers = memory_answers given K after keys;
+  added = added ∙ ap (λ x. x ++ encoding_of (Error errors.Memory)) out;
+}
 
 -- ---- rows
 

@@ -7,17 +7,20 @@ use Rattle.df_model.specs.Words.{Words}
 use Rattle.df_model.specs.Replies.{encoding_of, protocol_error}
 use Rattle.df_model.specs.Framing.{Splits, IsPartial, BeginsWhole}
 use Rattle.df_model.specs.BadInput.{BadAt}
-use Rattle.df_model.specs.Session.{State, session_step}
+use Rattle.df_model.specs.Session.{State, Given, session_step}
 use Rattle.df_model.specs.declared.session.BadKind.{BadKind}
-use Rattle.df_server.specs.Answers.{Replied}
+use Rattle.df_model.specs.declared.session.Why.TheVariants as whys
+use Rattle.df_server.specs.Answers.{Replied, IsHandled}
+use Rattle.df_server.specs.declared.session.Handled.TheVariants as handled
 use Rattle.df_server.specs.Serving.{Served}
-use Rattle.df_server.specs.Pipe.{Reached, AllAnswered, BadNear, Answering, SaysBad}
+use Rattle.df_server.specs.Pipe.{Reached, AllAnswered, BadNear, Answering, SaysBad, EndsAt}
 use Rattle.df_server.specs.declared.pipe.Answered.{Answered}
 use Rattle.df_server.specs.declared.pipe.Answered.TheVariants as answered
 use Rattle.df_resp.specs.Stream.{Stream, Counts, place_of}
 use Rattle.df_resp.proofs.FramedLaws.{partial_behind, bad_at_behind}
 use Rattle.df_resp.proofs.CountLaws.{no_longer, counts_join}
-use Rattle.df_server.proofs.ServedLaws.{served_more, served_skip, served_answer}
+use Rattle.df_server.proofs.ServedLaws.{served_more, served_skip, served_answer, step_is}
+use Rattle.df_server.proofs.EndLaws.{ended_parted, ended_left}
 
 -- a piece was fed, and nothing is answered yet
 pub fed_served : (bytes piece sent out rest fed : Bytes) (K : Keyspace) → Served no_keys bytes sent K rest → out ≡ [] → fed ≡ rest ++ piece → Served no_keys (bytes ++ piece) (sent ++ out) K fed
@@ -76,6 +79,8 @@ bad_answered (answered.Bad k a) kind at off bytes sent said said' old new K r s 
       out_is = ap (λ x. sent ++ x) says.2 ∙ sym (append_assoc sent said (protocol_error kind)) ∙ ap (λ x. (sent ++ said) ++ protocol_error x) (sym says.0);
       bad = subst (λ x. BadNear bytes a x) (sym says.0) (subst (λ x. BadNear bytes x kind) (sym says.1) near);
     }
+bad_answered answered.Quit kind at off bytes sent said said' old new K r s c no_whole bad at_is says = absurd says
+bad_answered answered.Asked kind at off bytes sent said said' old new K r s c no_whole bad at_is says = absurd says
 bad_answered answered.NoMemory kind at off bytes sent said said' old new K r s c no_whole bad at_is says =
     (new.rest, subst (λ x. Served no_keys bytes (sent ++ x) K new.rest) (sym says) (served_skip no_keys K bytes (sent ++ said) old.rest new.rest r.served s))
 
@@ -86,6 +91,19 @@ one_answered bytes sent old new from to K after words r s c reply =
     let out : (sent ++ old) ++ encoding_of reply.answer ≡ sent ++ new = append_assoc sent old (encoding_of reply.answer) ∙ ap (λ x. sent ++ x) (sym reply.added) in
     reached_on bytes (sent ++ old) K after (sent ++ new) (words ∷ []) from to r s c
     (subst (λ x. Served no_keys bytes x after to.rest) out (served_answer no_keys K after bytes (sent ++ old) from.rest to.rest words reply.answer r.served s reply.answers))
+
+-- QUIT was given and answered
+pub quit_answered : (bytes sent old new : Bytes) (from to : Stream) (K after : Keyspace) (words : Words) → Reached bytes (sent ++ old) K from → Splits from.rest (words ∷ []) to.rest
+    → IsHandled handled.Quit (session_step State.Ready words).0 K after old new → EndsAt whys.Quit bytes (sent ++ new)
+quit_answered bytes sent old new from to K after words r s h =
+    let out : (sent ++ old) ++ encoding_of h.0 ≡ sent ++ new = append_assoc sent old (encoding_of h.0) ∙ ap (λ x. sent ++ x) (sym h.1.1.1) in
+    subst (EndsAt whys.Quit bytes) out (ended_parted bytes (sent ++ old) from.rest to.rest K words h.0 r.served s (step_is words (Given.Parts h.0) h.1.0))
+
+-- SHUTDOWN was given
+pub shutdown_answered : (bytes sent old new : Bytes) (from to : Stream) (K after : Keyspace) (words : Words) → Reached bytes (sent ++ old) K from → Splits from.rest (words ∷ []) to.rest
+    → IsHandled handled.Asked (session_step State.Ready words).0 K after old new → EndsAt whys.Asked bytes (sent ++ new)
+shutdown_answered bytes sent old new from to K after words r s h =
+    subst (λ x. EndsAt whys.Asked bytes (sent ++ x)) (sym h.1.1) (ended_left bytes (sent ++ old) from.rest to.rest K words r.served s (step_is words Given.Leaves h.0))
 
 -- nothing was changed, and nothing added
 pub none_answered : (bytes sent old new rest : Bytes) (K after : Keyspace) → Served no_keys bytes (sent ++ old) K rest → after ≡ K → new ≡ old → Served no_keys bytes (sent ++ new) after rest

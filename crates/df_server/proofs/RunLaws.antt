@@ -119,6 +119,8 @@ bad_at bytes at kind within near =
 stops_ends : (end : End) (bytes unsent : Bytes) (in_first in_now : Inflow) (out_first out_old out_now : Outflow) → length bytes ≤ INPUT_LIMIT → out_first.faults ≤ out_old.faults → Stops end bytes unsent out_old out_now → Ends (why_of end) bytes unsent (run_of end in_first in_now out_first out_now)
 stops_ends ends.InputEnd bytes unsent in_first in_now out_first out_old out_now within le s = absurd s
 stops_ends (ends.Bad kind at) bytes unsent in_first in_now out_first out_old out_now within le s = (refl, bad_at bytes at kind within s.0, s.1)
+stops_ends ends.Quit bytes unsent in_first in_now out_first out_old out_now within le s = (refl, s)
+stops_ends ends.Asked bytes unsent in_first in_now out_first out_old out_now within le s = (refl, s)
 stops_ends ends.NoMemory bytes unsent in_first in_now out_first out_old out_now within le s = refl
 stops_ends ends.ReadFault bytes unsent in_first in_now out_first out_old out_now within le s = absurd s
 stops_ends ends.WriteFault bytes unsent in_first in_now out_first out_old out_now within le s = (refl, rose_since out_first.faults out_old.faults out_now.faults le s)

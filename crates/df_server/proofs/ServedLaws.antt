@@ -1,18 +1,19 @@
 -- How a session goes on, request after request, and what it has come to at an end.
-use Rattle.std.proofs.Common.{◌≡◌, inl, inr, ℕ, ◌+◌, ◌≤◌, Bool, List, [], ◌∷◌, ◌++◌, length, refl, sym, ap, subst, ◌∙◌, arith, append_assoc, append-nil}
+use Rattle.std.proofs.Common.{◌≡◌, ◌⊎◌, inl, inr, ℕ, ◌+◌, ◌≤◌, Bool, true, false, cond, List, [], ◌∷◌, ◌++◌, length, codes, refl, sym, ap, subst, ◌∙◌, arith, append_assoc, append-nil}
 use Rattle.std.specs.List.{flat_map}
 use Rattle.std.proofs.lemmas.List.Concat.{flat_map-append}
 use Rattle.df_model.specs.Values.{Bytes}
 use Rattle.df_model.specs.Keyspace.{Keyspace}
-use Rattle.df_model.specs.Words.{Words}
+use Rattle.df_model.specs.Words.{Words, is_name}
 use Rattle.df_model.specs.Reads.{Reading}
 use Rattle.df_model.specs.Replies.{encoding_of}
 use Rattle.df_model.specs.Framing.{Splits}
-use Rattle.df_model.specs.Session.{State, Given, heard_as, ready_step, session_step}
+use Rattle.df_model.specs.Session.{State, Given, Heard, Control, heard_as, heard_counted, shutdown, ready_step, session_step}
 use Rattle.df_model.specs.Reads.{reads_linked}
 use Rattle.df_model.specs.Calls.{Allowed}
 use Rattle.df_model.specs.History.{Item, Leads, IsOrdered, RisesFrom, HasSeen, SeesItsOwn}
 use Rattle.df_model.specs.Output.{IsAtLast, MayStop, Walk, SessionOutput, farewell}
+use Rattle.df_model.specs.declared.command.Command.TheVariants.{Wrong}
 use Rattle.df_model.specs.declared.command.Call.{Call}
 use Rattle.df_model.specs.declared.session.Why.{Why}
 use Rattle.df_model.specs.declared.session.Why.TheVariants as ends
@@ -26,16 +27,31 @@ use Rattle.df_server.specs.Serving.{Served}
 
 -- ---- the state
 
-reading_stays_ready : (reading : Reading) → (ready_step (heard_as reading)).1 ≡ State.Ready
-reading_stays_ready (Reading.Runs command) = refl
-reading_stays_ready Reading.Unknown = refl
-reading_stays_ready (Reading.Arity name) = refl
+-- MULTI is not among the controls so far, so no request leaves the first state
+abbrev Stays : Heard → Type 0
+Stays request = (ready_step request).1 ≡ State.Ready
 
--- no control name is linked, so no request leaves the first state
+one_of : (b : Bool) (one other : Heard) → Stays one → Stays other → Stays (cond b one other)
+one_of true one other p q = p
+one_of false one other p q = q
+
+reading_stays : (reading : Reading) → Stays (heard_as reading)
+reading_stays (Reading.Runs command) = refl
+reading_stays Reading.Unknown = refl
+reading_stays (Reading.Arity name) = refl
+
+shutdown_stays : (words : Words) → Stays (heard_counted (codes "shutdown") (shutdown words))
+shutdown_stays [] = refl
+shutdown_stays (word ∷ []) = one_of (is_name word (codes "nosave")) (Heard.Controls Control.Shutdown) (Heard.Spoken (Wrong errors.Syntax)) refl refl
+shutdown_stays (a ∷ b ∷ more) = refl
+
 pub stays_ready : (words : Words) → (session_step State.Ready words).1 ≡ State.Ready
-stays_ready words = reading_stays_ready (reads_linked words)
+stays_ready [] = reading_stays (reads_linked [])
+stays_ready (name ∷ words) =
+    one_of (is_name name (codes "quit")) (Heard.Controls Control.Quit) (cond (is_name name (codes "shutdown")) (heard_counted (codes "shutdown") (shutdown words)) (heard_as (reads_linked (name ∷ words)))) refl
+    (one_of (is_name name (codes "shutdown")) (heard_counted (codes "shutdown") (shutdown words)) (heard_as (reads_linked (name ∷ words))) (shutdown_stays words) (reading_stays (reads_linked (name ∷ words))))
 
-step_is : (words : Words) (given : Given) → (session_step State.Ready words).0 ≡ given → session_step State.Ready words ≡ (given, State.Ready)
+pub step_is : (words : Words) (given : Given) → (session_step State.Ready words).0 ≡ given → session_step State.Ready words ≡ (given, State.Ready)
 step_is words given is = ap (λ x. (x, (session_step State.Ready words).1)) is ∙ ap (λ x. (given, x)) (stays_ready words)
 
 -- ---- what is read and skipped
@@ -154,8 +170,10 @@ answer_given (Given.Calls call) K0 K after bytes out rest new words reply s t is
       | inr none ↦ subst (λ k. Served K0 bytes (out ++ encoding_of reply) k new) (sym none.1)
           (answered_without_item K0 K bytes out rest new words reply s t (memory_prefixes words reply none.0))
     ]
-answer_given (Given.Parts last) K0 K after bytes out rest new words reply s t is a = absurd a
-answer_given Given.Leaves K0 K after bytes out rest new words reply s t is a = absurd a
+answer_given (Given.Parts last) K0 K after bytes out rest new words reply s t is a =
+    subst (λ k. Served K0 bytes (out ++ encoding_of reply) k new) (sym a.1) (answered_without_item K0 K bytes out rest new words reply s t (memory_prefixes words reply a.0))
+answer_given Given.Leaves K0 K after bytes out rest new words reply s t is a =
+    subst (λ k. Served K0 bytes (out ++ encoding_of reply) k new) (sym a.1) (answered_without_item K0 K bytes out rest new words reply s t (memory_prefixes words reply a.0))
 
 -- a request that was answered
 pub served_answer : (K0 K after : Keyspace) (bytes out rest new : Bytes) (words : Words) (reply : Reply) → Served K0 bytes out K rest → Splits rest (words ∷ []) new
@@ -183,18 +201,23 @@ numbered_ordered items n = record { rises = rises 0 items n; sees_its_own = all_
 
 -- ---- the output
 
-ends_with : (K0 K : Keyspace) (bytes out rest : Bytes) (end : Why) (more : List Words) (s : Served K0 bytes out K rest) → Walk end State.Ready more [] [] → SessionOutput (s.requests ++ more) end s.items (out ++ farewell end)
-ends_with K0 K bytes out rest end more s walk = record {
-  replies = s.replies;
-  walk = subst (λ i. Walk end State.Ready (s.requests ++ more) i s.replies) (append-nil s.items)
-      (subst (λ p. Walk end State.Ready (s.requests ++ more) (s.items ++ []) p) (append-nil s.replies) (s.walks end more [] [] walk));
-  out_is = ap (λ x. x ++ farewell end) s.out_is;
+-- the last requests take no item and give these replies
+ends_with : (K0 K : Keyspace) (bytes out rest : Bytes) (end : Why) (more : List Words) (last : List Reply) (s : Served K0 bytes out K rest) → Walk end State.Ready more [] last
+    → SessionOutput (s.requests ++ more) end s.items ((out ++ flat_map encoding_of last) ++ farewell end)
+ends_with K0 K bytes out rest end more last s walk = record {
+  replies = s.replies ++ last;
+  walk = subst (λ i. Walk end State.Ready (s.requests ++ more) i (s.replies ++ last)) (append-nil s.items) (s.walks end more [] last walk);
+  out_is = ap (λ x. x ++ farewell end) (ap (λ x. x ++ flat_map encoding_of last) s.out_is ∙ sym (flat_map-append encoding_of s.replies last));
 }
+
+ends_after : (K0 K : Keyspace) (bytes out rest : Bytes) (end : Why) (more : List Words) (s : Served K0 bytes out K rest) → Walk end State.Ready more [] [] → SessionOutput (s.requests ++ more) end s.items (out ++ farewell end)
+ends_after K0 K bytes out rest end more s walk =
+    subst (λ x. SessionOutput (s.requests ++ more) end s.items (x ++ farewell end)) (append-nil out) (ends_with K0 K bytes out rest end more [] s walk)
 
 -- a session that ends behind its last request
 pub output_done : (K0 K : Keyspace) (bytes out rest : Bytes) (end : Why) (s : Served K0 bytes out K rest) → IsAtLast end → SessionOutput s.requests end s.items (out ++ farewell end)
 output_done K0 K bytes out rest end s last =
-    subst (λ r. SessionOutput r end s.items (out ++ farewell end)) (append-nil s.requests) (ends_with K0 K bytes out rest end [] s (Walk.done State.Ready last))
+    subst (λ r. SessionOutput r end s.items (out ++ farewell end)) (append-nil s.requests) (ends_after K0 K bytes out rest end [] s (Walk.done State.Ready last))
 
 no_farewell : (end : Why) → MayStop end → farewell end ≡ []
 no_farewell ends.InputEnd may = absurd may
@@ -212,4 +235,25 @@ no_farewell ends.NoMemory may = refl
 pub output_stopped : (K0 K : Keyspace) (bytes out rest : Bytes) (end : Why) (more : List Words) (s : Served K0 bytes out K rest) → MayStop end → SessionOutput (s.requests ++ more) end s.items out
 output_stopped K0 K bytes out rest end more s may =
     subst (SessionOutput (s.requests ++ more) end s.items) (ap (λ x. out ++ x) (no_farewell end may) ∙ append-nil out)
-    (ends_with K0 K bytes out rest end more s (Walk.stopped State.Ready more may))
+    (ends_after K0 K bytes out rest end more s (Walk.stopped State.Ready more may))
+
+-- an end that the session asks for itself, or one that may cut it off
+no_last_line : (asked end : Why) → farewell asked ≡ [] → (end ≡ asked) ⊎ MayStop end → farewell end ≡ []
+no_last_line asked end none (inl e) = ap farewell e ∙ none
+no_last_line asked end none (inr may) = no_farewell end may
+
+-- a session that ends at QUIT
+pub output_parted : (K0 K : Keyspace) (bytes out rest : Bytes) (end : Why) (words : Words) (more : List Words) (reply : Reply) (s : Served K0 bytes out K rest) → session_step State.Ready words ≡ (Given.Parts reply, State.Ready)
+    → (end ≡ ends.Quit) ⊎ MayStop end → SessionOutput (s.requests ++ words ∷ more) end s.items (out ++ encoding_of reply)
+output_parted K0 K bytes out rest end words more reply s is how =
+    subst (SessionOutput (s.requests ++ words ∷ more) end s.items)
+    (ap (λ x. (out ++ flat_map encoding_of (reply ∷ [])) ++ x) (no_last_line ends.Quit end refl how) ∙ append-nil (out ++ flat_map encoding_of (reply ∷ [])) ∙ ap (λ x. out ++ x) (append-nil (encoding_of reply)))
+    (ends_with K0 K bytes out rest end (words ∷ more) (reply ∷ []) s (Walk.parted State.Ready words more reply State.Ready is how))
+
+-- a session that ends at SHUTDOWN
+pub output_left : (K0 K : Keyspace) (bytes out rest : Bytes) (end : Why) (words : Words) (more : List Words) (s : Served K0 bytes out K rest) → session_step State.Ready words ≡ (Given.Leaves, State.Ready)
+    → (end ≡ ends.Asked) ⊎ MayStop end → SessionOutput (s.requests ++ words ∷ more) end s.items out
+output_left K0 K bytes out rest end words more s is how =
+    subst (SessionOutput (s.requests ++ words ∷ more) end s.items)
+    (ap (λ x. out ++ x) (no_last_line ends.Asked end refl how) ∙ append-nil out)
+    (ends_after K0 K bytes out rest end (words ∷ more) s (Walk.left State.Ready words more State.Ready is how))

@@ -35,6 +35,8 @@ showing end (answered.Bad kind at) bytes out K stream may cuts f =
       shows = inr (cuts, (kind, (f.bad.place, (f.bad.bad, refl))));
       ended = subst (Ended bad bytes) (sym f.out_is) (ended_done bad bytes f.replies stream K f.answered tt);
     }
+showing end answered.Quit bytes out K stream may cuts f = record { shown = why_of end; shows = inl refl; ended = f (why_of end) (inr may) }
+showing end answered.Asked bytes out K stream may cuts f = record { shown = why_of end; shows = inl refl; ended = f (why_of end) (inr may) }
 showing end answered.NoMemory bytes out K stream may cuts f =
     record { shown = why_of end; shows = inl refl; ended = ended_stopped (why_of end) bytes out f.0 K f.1 may }
 
@@ -71,19 +73,31 @@ turn_law answered.All written.Whole bytes sent out stream K before now f w = rec
 turn_law (answered.Bad kind at) written.Whole bytes sent out stream K before now f w =
     let bad : Why = whys.Protocol kind at in
     written_out (ends.Bad kind at) bytes sent out before now w.0 (subst (Ended bad bytes) (sym f.out_is) (ended_done bad bytes f.replies stream K f.answered tt)) (f.bad, refl)
+turn_law answered.Quit written.Whole bytes sent out stream K before now f w = written_out ends.Quit bytes sent out before now w.0 (f whys.Quit (inl refl)) refl
+turn_law answered.Asked written.Whole bytes sent out stream K before now f w = written_out ends.Asked bytes sent out before now w.0 (f whys.Asked (inl refl)) refl
 turn_law answered.NoMemory written.Whole bytes sent out stream K before now f w =
     written_out ends.NoMemory bytes sent out before now w.0 (ended_stopped (why_of ends.NoMemory) bytes (sent ++ out) f.0 K f.1 tt) tt
 turn_law answered.All written.Failed bytes sent out stream K before now f w = cut_off ends.WriteFault answered.All bytes sent out stream K before now tt tt f w.0 w.1
 turn_law (answered.Bad kind at) written.Failed bytes sent out stream K before now f w = cut_off ends.WriteFault (answered.Bad kind at) bytes sent out stream K before now tt tt f w.0 w.1
+turn_law answered.Quit written.Failed bytes sent out stream K before now f w = cut_off ends.WriteFault answered.Quit bytes sent out stream K before now tt tt f w.0 w.1
+turn_law answered.Asked written.Failed bytes sent out stream K before now f w = cut_off ends.WriteFault answered.Asked bytes sent out stream K before now tt tt f w.0 w.1
 turn_law answered.NoMemory written.Failed bytes sent out stream K before now f w = cut_off ends.WriteFault answered.NoMemory bytes sent out stream K before now tt tt f w.0 w.1
 turn_law answered.All written.NoMemory bytes sent out stream K before now f w = cut_off ends.NoMemory answered.All bytes sent out stream K before now tt tt f w tt
 turn_law (answered.Bad kind at) written.NoMemory bytes sent out stream K before now f w = cut_off ends.NoMemory (answered.Bad kind at) bytes sent out stream K before now tt tt f w tt
+turn_law answered.Quit written.NoMemory bytes sent out stream K before now f w = cut_off ends.NoMemory answered.Quit bytes sent out stream K before now tt tt f w tt
+turn_law answered.Asked written.NoMemory bytes sent out stream K before now f w = cut_off ends.NoMemory answered.Asked bytes sent out stream K before now tt tt f w tt
 turn_law answered.NoMemory written.NoMemory bytes sent out stream K before now f w = cut_off ends.NoMemory answered.NoMemory bytes sent out stream K before now tt tt f w tt
 
 -- a turn goes on only where all was answered
 pub good_after : {P : Type 0} (a : Answered) (p : Written) → (a ≡ answered.All → P) → OnOk (after_of a p) P
 good_after answered.All written.Whole good = good refl
 good_after (answered.Bad kind at) written.Whole good = tt
+good_after answered.Quit written.Whole good = tt
+good_after answered.Asked written.Whole good = tt
+good_after answered.Quit written.Failed good = tt
+good_after answered.Asked written.Failed good = tt
+good_after answered.Quit written.NoMemory good = tt
+good_after answered.Asked written.NoMemory good = tt
 good_after answered.NoMemory written.Whole good = tt
 good_after answered.All written.Failed good = tt
 good_after (answered.Bad kind at) written.Failed good = tt

@@ -8,17 +8,26 @@ use Rattle.df_model.specs.Calls.{Allowed}
 use Rattle.df_model.specs.declared.reply.ErrorText.TheVariants as errors
 use Rattle.df_model.specs.declared.reply.Reply.{Reply}
 use Rattle.df_model.specs.declared.reply.Reply.TheVariants.{Error}
+use Rattle.df_server.specs.declared.session.Handled.{Handled}
+use Rattle.df_server.specs.declared.session.Handled.TheVariants as handled
 
 -- what the machine gives may be answered so, and leaves this keyspace
 abbrev pub Answers : Given → Keyspace → Reply → Keyspace → Type 0
 Answers (Given.Replies reply) K answer after = ((answer ≡ reply) ⊎ (answer ≡ Error errors.Memory)) × (after ≡ K)
 Answers (Given.Calls call) K answer after =
     ((marks : List Bool) × Allowed call marks K answer after) ⊎ ((answer ≡ Error errors.Memory) × (after ≡ K))
-Answers (Given.Parts reply) K answer after = ⊥
-Answers Given.Leaves K answer after = ⊥
+-- a request that would end the session, and found no memory
+Answers (Given.Parts reply) K answer after = (answer ≡ Error errors.Memory) × (after ≡ K)
+Answers Given.Leaves K answer after = (answer ≡ Error errors.Memory) × (after ≡ K)
 
 -- the request was answered, and the bytes of the answer were added
 pub record Replied (given : Given) (K after : Keyspace) (old new : Bytes) : Type 0 where
   pub answer : Reply
   pub answers : Answers given K answer after
   pub added : new ≡ old ++ encoding_of answer
+
+-- what a request came to: it was answered, or it ends the session, with a last reply or with none
+abbrev pub IsHandled : Handled → Given → Keyspace → Keyspace → Bytes → Bytes → Type 0
+IsHandled handled.Answered given K after old new = Replied given K after old new
+IsHandled handled.Quit given K after old new = (reply : Reply) × ((given ≡ Given.Parts reply) × ((after ≡ K) × (new ≡ old ++ encoding_of reply)))
+IsHandled handled.Asked given K after old new = (given ≡ Given.Leaves) × ((after ≡ K) × (new ≡ old))

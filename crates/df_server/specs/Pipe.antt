@@ -8,7 +8,7 @@ use Rattle.df_model.specs.Framing.{Framed, BeginsWhole, CanGoOn}
 use Rattle.df_model.specs.BadInput.{BadAt}
 use Rattle.df_model.specs.Replies.{protocol_error}
 use Rattle.df_model.specs.History.{Item, IsLegal, IsOrdered}
-use Rattle.df_model.specs.Output.{SessionOutput}
+use Rattle.df_model.specs.Output.{SessionOutput, MayStop}
 use Rattle.df_model.specs.declared.session.BadKind.{BadKind}
 use Rattle.df_model.specs.declared.session.Why.{Why}
 use Rattle.df_model.specs.declared.session.Why.TheVariants as whys
@@ -53,10 +53,28 @@ pub record BadAnswered (kind : BadKind) (at : ℕ) (bytes out : Bytes) (K : Keys
   pub out_is : out ≡ replies ++ protocol_error kind
   pub bad : BadNear bytes at kind
 
+-- the session over these bytes ended with this output
+pub record Ended (end : Why) (bytes out : Bytes) : Type 0 where
+  pub requests : List Words
+  pub rest : Bytes
+  pub framed : Framed bytes requests rest
+  pub items : List Item
+  pub legal : IsLegal no_keys items
+  pub ordered : IsOrdered items
+  pub numbered : IsNumbered 0 items
+  pub output : SessionOutput requests end items out
+
+-- The requests up to and with one that ends the session were answered with this output, and what stands behind isn't
+-- looked at: so this is the session's output, also where it ends before that by a cause that may cut it off.
+abbrev pub EndsAt : Why → Bytes → Bytes → Type 0
+EndsAt why bytes out = (end : Why) → (end ≡ why) ⊎ MayStop end → Ended end bytes out
+
 -- how far the requests among the bytes were answered, and why not further
 abbrev pub Answering : Answered → Bytes → Bytes → Keyspace → Stream → Type 0
 Answering answered.All bytes out K stream = AllAnswered bytes out K stream × CanGoOn bytes
 Answering (answered.Bad kind at) bytes out K stream = BadAnswered kind at bytes out K stream
+Answering answered.Quit bytes out K stream = EndsAt whys.Quit bytes out
+Answering answered.Asked bytes out K stream = EndsAt whys.Asked bytes out
 -- the reader may have given a request that found no answer
 Answering answered.NoMemory bytes out K stream = (behind : Bytes) × Served no_keys bytes out K behind
 
@@ -65,6 +83,8 @@ abbrev pub SaysBad : Answered → BadKind → ℕ → Bytes → Bytes → Type 0
 SaysBad answered.All kind at old new = ⊥
 SaysBad (answered.Bad k a) kind at old new = (k ≡ kind) × (a ≡ at) × (new ≡ old ++ protocol_error kind)
 SaysBad answered.NoMemory kind at old new = new ≡ old
+SaysBad answered.Quit kind at old new = ⊥
+SaysBad answered.Asked kind at old new = ⊥
 
 -- ---- writes
 
@@ -78,6 +98,8 @@ HasWritten written.NoMemory piece before now = WroteFront piece before now
 
 abbrev pub why_of : End → Why
 why_of ends.InputEnd = whys.InputEnd
+why_of ends.Quit = whys.Quit
+why_of ends.Asked = whys.Asked
 why_of (ends.Bad kind at) = whys.Protocol kind at
 why_of ends.NoMemory = whys.NoMemory
 why_of ends.ReadFault = whys.ReadFault
@@ -86,22 +108,13 @@ why_of ends.Limit = whys.ReadFault
 
 abbrev pub status_of : End → ℕ
 status_of ends.InputEnd = 0
+status_of ends.Quit = 0
+status_of ends.Asked = 0
 status_of (ends.Bad kind at) = 1
 status_of ends.NoMemory = 4
 status_of ends.ReadFault = 7
 status_of ends.WriteFault = 8
 status_of ends.Limit = 9
-
--- the session over these bytes ended with this output
-pub record Ended (end : Why) (bytes out : Bytes) : Type 0 where
-  pub requests : List Words
-  pub rest : Bytes
-  pub framed : Framed bytes requests rest
-  pub items : List Item
-  pub legal : IsLegal no_keys items
-  pub ordered : IsOrdered items
-  pub numbered : IsNumbered 0 items
-  pub output : SessionOutput requests end items out
 
 -- ---- one turn: what is whole is answered, and the answers are written
 
@@ -109,6 +122,8 @@ pub record Ended (end : Why) (bytes out : Bytes) : Type 0 where
 abbrev pub after_of : Answered → Written → Result (Unit {0}) End
 after_of answered.All written.Whole = Ok tt
 after_of (answered.Bad kind at) written.Whole = Err (ends.Bad kind at)
+after_of answered.Quit written.Whole = Err ends.Quit
+after_of answered.Asked written.Whole = Err ends.Asked
 after_of answered.NoMemory written.Whole = Err ends.NoMemory
 after_of answers written.Failed = Err ends.WriteFault
 after_of answers written.NoMemory = Err ends.NoMemory
@@ -117,6 +132,8 @@ after_of answers written.NoMemory = Err ends.NoMemory
 abbrev pub Stops : End → Bytes → Bytes → Outflow → Outflow → Type 0
 Stops ends.InputEnd bytes unsent before now = ⊥
 Stops (ends.Bad kind at) bytes unsent before now = BadNear bytes at kind × (unsent ≡ [])
+Stops ends.Quit bytes unsent before now = unsent ≡ []
+Stops ends.Asked bytes unsent before now = unsent ≡ []
 Stops ends.NoMemory bytes unsent before now = Unit {0}
 Stops ends.ReadFault bytes unsent before now = ⊥
 Stops ends.WriteFault bytes unsent before now = Rose before.faults now.faults

@@ -69,9 +69,10 @@ Ends ends.ReadFault bytes unsent run =
     ((run.status ≡ 7) × (length bytes < INPUT_LIMIT) × Rose run.input_before.faults run.input.faults)
     ⊎ ((run.status ≡ 9) × (length bytes ≡ INPUT_LIMIT) × (run.input.ended ≡ false))
 Ends ends.WriteFault bytes unsent run = (run.status ≡ 8) × Rose run.output_before.faults run.output.faults
+-- QUIT or SHUTDOWN: all before it was answered and written; what stands behind it isn't looked at
+Ends ends.Quit bytes unsent run = (run.status ≡ 0) × (unsent ≡ [])
+Ends ends.Asked bytes unsent run = (run.status ≡ 0) × (unsent ≡ [])
 -- a pipe ends in no other way
-Ends ends.Quit bytes unsent run = ⊥
-Ends ends.Asked bytes unsent run = ⊥
 Ends ends.Stopped bytes unsent run = ⊥
 Ends ends.TooMany bytes unsent run = ⊥
 Ends ends.Spent bytes unsent run = ⊥

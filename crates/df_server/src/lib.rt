@@ -1,6 +1,7 @@
 //! The server: the words of the command line, and one session over a source and a sink.
 #![tactic(auto)]
 
+mod controls;
 mod keys;
 mod pipe;
 mod program;

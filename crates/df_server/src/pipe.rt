@@ -9,7 +9,7 @@ ghost use Rattle.df_model.specs.Keyspace.{no_keys};
 ghost use Rattle.df_server.specs.Pipe.{IsGood, Reached, Answering, SaysBad, HasWritten, after_of, status_of, Turns, ReadsOn, Ran, Underway};
 
 use crate::keys::Keys;
-use crate::session::serve;
+use crate::session::{Handled, serve};
 use df_model::BadKind;
 use df_outside::{Got, Put, Sink, Source};
 use df_resp::{Next, Reader, encode_protocol_error};
@@ -25,6 +25,10 @@ const READ_SIZE: usize = 16384;
 #[derive(Clone, Copy, Debug)]
 pub enum End {
     InputEnd,
+    /// QUIT.
+    Quit,
+    /// SHUTDOWN.
+    Asked,
     /// The input is bad: what was expected, and where.
     Bad(BadKind, u64),
     NoMemory,
@@ -40,7 +44,7 @@ impl End {
         ensures { result ≡ status_of self }
     {
         match self {
-            End::InputEnd => 0,
+            End::InputEnd | End::Quit | End::Asked => 0,
             End::Bad(_, _) => 1,
             End::NoMemory => 4,
             End::ReadFault => 7,
@@ -64,6 +68,10 @@ enum Answered {
     All,
     /// All, and behind them the input is bad, which the output says.
     Bad(BadKind, u64),
+    /// Those up to a QUIT, and it too. What stands behind it isn't looked at.
+    Quit,
+    /// Those up to a SHUTDOWN, which has no reply.
+    Asked,
     NoMemory,
 }
 
@@ -188,14 +196,16 @@ impl Session {
         'requests: loop {
             match self.reader.next() {
                 Ok(Next::Words(words)) => {
-                    let served = serve(
+                    match serve(
                         self.alloc,
                         &mut self.keys,
                         words.as_slice(),
                         &mut self.output,
-                    );
-                    if served.is_err() {
-                        return Answered::NoMemory;
+                    ) {
+                        Ok(Handled::Answered) => {}
+                        Ok(Handled::Quit) => return Answered::Quit,
+                        Ok(Handled::Asked) => return Answered::Asked,
+                        Err(_) => return Answered::NoMemory,
                     }
                 }
                 Ok(Next::NeedMore) => return Answered::All,
@@ -240,6 +250,8 @@ fn after(answered: Answered, written: Written) -> Result<(), End>
         (Written::NoMemory, _) => Err(End::NoMemory),
         (Written::Whole, Answered::All) => Ok(()),
         (Written::Whole, Answered::Bad(kind, at)) => Err(End::Bad(kind, at)),
+        (Written::Whole, Answered::Quit) => Err(End::Quit),
+        (Written::Whole, Answered::Asked) => Err(End::Asked),
         (Written::Whole, Answered::NoMemory) => Err(End::NoMemory),
     }
 }

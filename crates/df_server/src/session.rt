@@ -4,7 +4,7 @@
 //! first, and the put is the last step. So a command that finds none changes nothing, and the reply
 //! says so. Where that reply finds none either, nothing is added, and the session has to end.
 
-ghost use Rattle.std.specs.Prelude.{◌≡◌, ◌++◌, Some, OnOk, OnErr};
+ghost use Rattle.std.specs.Prelude.{◌≡◌, ◌++◌, Some, OnOk, OnErr, IfOk};
 ghost use Rattle.df_model.specs.Values.{Value};
 ghost use Rattle.df_model.specs.Keyspace.{held, with_held};
 ghost use Rattle.df_model.specs.Outcomes as outcomes;
@@ -13,16 +13,29 @@ ghost use Rattle.df_model.specs.Meaning.Keyless as keyless;
 ghost use Rattle.df_model.specs.Meaning.Strings as strings;
 ghost use Rattle.df_model.specs.Replies.{encoding_of};
 ghost use Rattle.df_model.specs.Reads.{IsLinked, reads_linked};
-ghost use Rattle.df_model.specs.Session.{State, session_step};
-ghost use Rattle.df_server.specs.Answers.{Replied};
+ghost use Rattle.df_model.specs.Session.{State, controls, heard_as, heard_by, ready_step, session_step};
+ghost use Rattle.df_server.specs.Answers.{IsHandled};
 ghost use Rattle.df_server.specs.Responses.{response, Gives, guard_allows};
 
+use crate::controls::{quit, shutdown};
 use crate::keys::Keys;
 use bytes::Bytes;
 use df_model::{Bin, Command, ErrorText, Guard, NoMemory, OneOp, PlainOp};
 use df_parse::{Refusal, read_linked};
 use df_resp::{encode_bulk, encode_error, encode_null, encode_simple};
+use df_text::is_name;
 use std::alloc::Global;
+
+/// What a request came to.
+#[derive(Clone, Copy, Debug)]
+pub enum Handled {
+    /// It was answered, and the session goes on.
+    Answered,
+    /// It was QUIT and was answered; the session ends.
+    Quit,
+    /// It was SHUTDOWN; the session ends.
+    Asked,
+}
 
 /// Answers a request: adds the reply's bytes, and changes the keyspace as the command says.
 pub fn serve(
@@ -30,15 +43,54 @@ pub fn serve(
     keys: &mut Keys,
     words: &[Bytes],
     out: &mut Vec<u8>,
-) -> Result<(), NoMemory>
-    ensures ok { OnOk result (Replied (session_step State.Ready words.now).0 keys.old keys.new out.old.items out.new.items) }
+) -> Result<Handled, NoMemory>
+    ensures ok { IfOk result (λ handled. IsHandled handled (session_step State.Ready words.now).0 keys.old keys.new out.old.items out.new.items) }
+    ensures keys { OnErr result (keys.new ≡ keys.old) }
+    ensures out { OnErr result (out.new.items ≡ out.old.items) }
+{
+    match words {
+        [] => serve_command(alloc, keys, words, out),
+        [name, behind @ ..] => serve_named(alloc, keys, name.as_slice(), behind, words, out),
+    }
+}
+
+/// The words are this name and those behind it.
+fn serve_named(
+    alloc: Global,
+    keys: &mut Keys,
+    name: &[u8],
+    behind: &[Bytes],
+    words: &[Bytes],
+    out: &mut Vec<u8>,
+) -> Result<Handled, NoMemory>
+    ensures ok { IfOk result (λ handled. IsHandled handled (ready_step (heard_by controls name.now behind.now (heard_as (reads_linked words.now)))).0 keys.old keys.new out.old.items out.new.items) }
+    ensures keys { OnErr result (keys.new ≡ keys.old) }
+    ensures out { OnErr result (out.new.items ≡ out.old.items) }
+{
+    if is_name(name, "quit") {
+        quit(out)
+    } else if is_name(name, "shutdown") {
+        shutdown(alloc, behind, out)
+    } else {
+        serve_command(alloc, keys, words, out)
+    }
+}
+
+fn serve_command(
+    alloc: Global,
+    keys: &mut Keys,
+    words: &[Bytes],
+    out: &mut Vec<u8>,
+) -> Result<Handled, NoMemory>
+    ensures ok { IfOk result (λ handled. IsHandled handled (ready_step (heard_as (reads_linked words.now))).0 keys.old keys.new out.old.items out.new.items) }
     ensures keys { OnErr result (keys.new ≡ keys.old) }
     ensures out { OnErr result (out.new.items ≡ out.old.items) }
 {
     match answer(alloc, keys, words, out) {
-        Ok(()) => Ok(()),
-        Err(_) => encode_error(&ErrorText::Memory, out),
+        Ok(()) => {}
+        Err(_) => encode_error(&ErrorText::Memory, out)?,
     }
+    Ok(Handled::Answered)
 }
 
 fn answer(
