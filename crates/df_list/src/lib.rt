@@ -1,0 +1,9 @@
+//! Lists of byte strings, as a key holds them.
+#![tactic(auto)]
+
+mod list_val;
+mod removal;
+#[cfg(test)]
+mod tests;
+
+pub use list_val::ListVal;
