@@ -1,0 +1,3 @@
+pub mod Roomy
+pub mod Places
+pub mod Runs

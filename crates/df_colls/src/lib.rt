@@ -1,0 +1,13 @@
+//! Finite maps and sets of byte strings, with room that puts may use.
+//!
+//! Both are entries in the byte order of their keys. A contract sees the map or the set alone, and how
+//! many puts find room, so that entries in chunks may take the place of the one vector.
+#![tactic(auto)]
+
+mod copies;
+mod entries;
+mod hash;
+mod set;
+
+pub use hash::HashVal;
+pub use set::SetVal;
