@@ -1,3 +1,4 @@
 pub mod OrderLaws
 pub mod SearchLaws
 pub mod PlaceLaws
+pub mod MergeLaws

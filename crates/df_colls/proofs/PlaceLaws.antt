@@ -44,17 +44,29 @@ module _ {X : Type 0} where
   abbrev unless : Bytes → List (Bytes × X) → List (Bytes × X)
   unless k = where_key order (λ x. not (eq_by_cmp order k x))
 
-  unless_is : (k : Bytes) (es fs : List (Bytes × X)) → T (is_sorted order es) → unless k es ≡ fs → Makes fs (map.remove (made es) k)
-  unless_is k es fs s e =
-      let s' = subst (λ xs. T (is_sorted order xs)) e (is_sorted-where_key order (λ x. not (eq_by_cmp order k x)) es s) in
+  -- the entries whose keys pass a test make the map that answers so
+  where_is : (p : Bytes → Bool) (es fs : List (Bytes × X)) (m : FinMap order X) → T (is_sorted order es) → ((q : Bytes) → map.get m q ≡ cond (p q) (map.get (made es) q) None) → where_key order p es ≡ fs → Makes fs m
+  where_is p es fs m s gets e =
+      let s' = subst (λ xs. T (is_sorted order xs)) e (is_sorted-where_key order p es s) in
       record { sorted = s'; same = sym (map.same_map nat_list_cmp_total same_key _ _ (λ q.
-        map.get-remove nat_list_cmp_total (made es) k q
-        ∙ ap (cond (eq_by_cmp order q k) None) (map.get-from_sorted order es q s)
-        ∙ ap (λ b. cond b None (find order q es)) ((eq_by_cmp_equiv nat_list_cmp_total).symm q k)
-        ∙ sym (turned (eq_by_cmp order k q) _ _)
-        ∙ sym (find-where_key order (λ x. not (eq_by_cmp order k x)) q (λ x t. ap (λ y. not (eq_by_cmp order k y)) (sym (same_key q x t))) es)
+        gets q
+        ∙ ap (λ x. cond (p q) x None) (map.get-from_sorted order es q s)
+        ∙ sym (find-where_key order p q (λ x t. ap p (sym (same_key q x t))) es)
         ∙ ap (find order q) e
         ∙ sym (map.get-from_sorted order fs q s'))) }
+
+  unless_is : (k : Bytes) (es fs : List (Bytes × X)) → T (is_sorted order es) → unless k es ≡ fs → Makes fs (map.remove (made es) k)
+  unless_is k es fs s e = where_is _ es fs _ s (λ q.
+      map.get-remove nat_list_cmp_total (made es) k q
+      ∙ ap (λ b. cond b None (map.get (made es) q)) ((eq_by_cmp_equiv nat_list_cmp_total).symm q k)
+      ∙ sym (turned (eq_by_cmp order k q) _ _)) e
+
+  pub retained : (p : Bytes → Bool) (m : FinMap order X) (fs : List (Bytes × X)) → fs ≡ where_key order p (map.entries m) → Makes fs (map.retain_keys m p)
+  retained p m fs e =
+      let same = (makes (map.entries m) m refl).same in
+      where_is p (map.entries m) fs _ (map.entries_sorted m) (λ q.
+        map.get-retain_keys m p q (λ x t. ap p (sym (same_key q x t)))
+        ∙ ap (λ n. cond (p q) (map.get n q) None) (sym same)) (sym e)
 
   -- ---- where the key is
 

@@ -1,3 +1,5 @@
 pub mod Roomy
 pub mod Places
 pub mod Runs
+pub mod Kept
+pub mod Merged

@@ -128,6 +128,7 @@ impl<X: Drop> Entries<X> {
     /// All entries, lent.
     pub(crate) fn as_slice(&self) -> &[(Bin, X)]
         ensures items { result.now ≡ map.entries self.now.contents }
+        ensures sorted { T (map.is_sorted order result.now) }
         ensures len { length result.now ≡ map.len self.now.contents }
     {
         self.items.as_slice()

@@ -103,4 +103,12 @@ impl HashVal {
     {
         self.entries.run(from)
     }
+
+    /// The same fields in memory of their own.
+    pub fn copy(&self, alloc: Global) -> Result<HashVal, NoMemory>
+        ensures { IfOk result (λ copy. copy.fields ≡ self.now.fields) }
+    {
+        let entries = self.entries.copy(alloc)?;
+        Ok(HashVal { entries })
+    }
 }

@@ -4,6 +4,7 @@
 //! many puts find room, so that entries in chunks may take the place of the one vector.
 #![tactic(auto)]
 
+mod combine;
 mod copies;
 mod entries;
 mod hash;

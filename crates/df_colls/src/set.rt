@@ -5,7 +5,9 @@ ghost use Rattle.std.specs.Option.{option_copied};
 ghost use Rattle.std.specs.FinMap as map;
 ghost use Rattle.df_model.specs.Members as members;
 ghost use Rattle.df_colls.specs.Runs.{IsFront};
+ghost use Rattle.df_colls.specs.Kept.{is_kept};
 
+use crate::combine::{kept, merged};
 use crate::entries::Entries;
 use df_model::{Bin, NoMemory};
 use std::alloc::Global;
@@ -103,5 +105,49 @@ impl SetVal {
         ensures goes_on { from < members.len self.now.members → 0 < length result.now }
     {
         self.entries.run(from)
+    }
+
+    /// The same members in memory of their own.
+    pub fn copy(&self, alloc: Global) -> Result<SetVal, NoMemory>
+        ensures { IfOk result (λ copy. copy.members ≡ self.now.members) }
+    {
+        let entries = self.entries.copy(alloc)?;
+        Ok(SetVal { entries })
+    }
+
+    /// The members that both have.
+    pub fn inter(&self, alloc: Global, other: &SetVal) -> Result<SetVal, NoMemory>
+        ensures { IfOk result
+            (λ both. both.members ≡ members.intersection self.now.members other.now.members) }
+    {
+        self.kept(alloc, other, true)
+    }
+
+    /// The members that either has.
+    pub fn union(&self, alloc: Global, other: &SetVal) -> Result<SetVal, NoMemory>
+        ensures { IfOk result
+            (λ either. either.members ≡ members.union self.now.members other.now.members) }
+    {
+        let items = merged(alloc, self.entries.as_slice(), other.entries.as_slice())?;
+        let entries = Entries::from_items(items);
+        Ok(SetVal { entries })
+    }
+
+    /// The members that the other hasn't.
+    pub fn diff(&self, alloc: Global, other: &SetVal) -> Result<SetVal, NoMemory>
+        ensures { IfOk result
+            (λ rest. rest.members ≡ members.difference self.now.members other.now.members) }
+    {
+        self.kept(alloc, other, false)
+    }
+
+    /// The members that the other has, or those that it hasn't.
+    fn kept(&self, alloc: Global, other: &SetVal, inside: bool) -> Result<SetVal, NoMemory>
+        ensures { IfOk result
+            (λ kept. kept.members ≡ map.retain_keys self.now.members (is_kept inside other.now.members)) }
+    {
+        let items = kept(alloc, self.entries.as_slice(), &other.entries, inside)?;
+        let entries = Entries::from_items(items);
+        Ok(SetVal { entries })
     }
 }
