@@ -1,6 +1,7 @@
 pub mod Spared
 pub mod formers
 pub mod Values
+pub mod Writes
 pub mod Keyspace
 pub mod Words
 pub mod Numbers

@@ -7,6 +7,7 @@ ghost use Rattle.std.specs.Cmp.{partial_equiv_from_equiv};
 
 use std::alloc::{AllocError, AllocFailed, Global};
 use std::cmp::Ordering;
+use std::hash::{Hash, Hasher};
 use std::marker::Model;
 
 /// Memory ran out. A call that answers it leaves what it was lent as before, unless its page says
@@ -128,5 +129,18 @@ impl Ord for Bin {
 
     fn cmp(&self, other: &Bin) -> Ordering {
         self.as_slice().cmp(other.as_slice())
+    }
+}
+
+/// All bytes in one write. A key stands alone, so that its length need not be hashed too.
+impl Hash for Bin {
+    ghost use Rattle.df_model.specs.Writes.{writes, same_writes};
+
+    ghost hash_input = { writes };
+
+    ghost respects_eq = { same_writes };
+
+    fn hash<H: Hasher>(&self, state: &mut H) {
+        state.write(self.as_slice());
     }
 }
