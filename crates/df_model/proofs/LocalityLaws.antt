@@ -14,23 +14,23 @@ use Rattle.df_model.specs.Access.{Access, names, among, part, taken_over, does, 
 use Rattle.df_model.specs.Outcomes.{KeyRow, Outcome, settled}
 use Rattle.df_model.specs.declared.reply.Reply.{Reply}
 
-abbrev tied : Bytes → Bytes → Bool
+abbrev pub tied : Bytes → Bytes → Bool
 tied = eq_by_cmp (slice_cmp nat_cmp)
 
-equal : (r : Ordering) → is_eq r ≡ true → r ≡ Equal
+pub equal : (r : Ordering) → is_eq r ≡ true → r ≡ Equal
 equal Less e = absurd (false≢true e)
 equal Equal e = refl
 equal Greater e = absurd (false≢true e)
 
-same_bytes : (a b : Bytes) → slice_cmp nat_cmp a b ≡ Equal → a ≡ b
+pub same_bytes : (a b : Bytes) → slice_cmp nat_cmp a b ≡ Equal → a ≡ b
 same_bytes = slice_cmp-IsAntisymmetric nat_cmp-IsAntisymmetric
 
 -- what a key holds where another key was put or removed
-held_with : (K : Keyspace) (k : Bytes) (v : Option Value) (q : Bytes) → held (with_held K k v) q ≡ cond (tied q k) v (held K q)
+pub held_with : (K : Keyspace) (k : Bytes) (v : Option Value) (q : Bytes) → held (with_held K k v) q ≡ cond (tied q k) v (held K q)
 held_with K k None q = get-remove nat_list_cmp_total K k q
 held_with K k (Some v) q = get-insert nat_list_cmp_total K k v q
 
-held_part : (K : Keyspace) (ks : List Bytes) (q : Bytes) → held (part K ks) q ≡ cond (among ks q) (held K q) None
+pub held_part : (K : Keyspace) (ks : List Bytes) (q : Bytes) → held (part K ks) q ≡ cond (among ks q) (held K q) None
 held_part K ks q = get-retain_keys K (among ks) q (λ x e. ap (among ks) (sym (same_bytes q x e)))
 
 agree : (b : Bool) (x y : Option Value) → (b ≡ true → x ≡ y) → cond b x None ≡ cond b y None
@@ -86,7 +86,7 @@ others a K k e = held_taken_over K a.writes (a.row (part K (names a))).1 k ∙ a
 pub within : (a : Access) (k : Bytes) → among a.writes k ≡ true → among (names a) k ≡ true
 within a k e = front_of a.reads a.writes k e
 
-same_itself : (k : Bytes) → pointwise nat_eq k k ≡ true
+pub same_itself : (k : Bytes) → pointwise nat_eq k k ≡ true
 same_itself k = texts_ties k k ∙ ap is_eq (tied_itself nat_list_cmp_total k)
 
 -- a command of one key that writes, as the tables say it: its row on what the key holds

@@ -82,7 +82,7 @@ one (ones.Sismember member) = KeyRow.Looks (sets.looks (sets.sismember member))
 one (ones.Smismember words) = KeyRow.Looks (sets.looks (sets.smismember words.items))
 one ones.Smembers = KeyRow.Looks (sets.looks sets.smembers)
 
-abbrev firsts : List (Bytes × Bytes) → List Bytes
+abbrev pub firsts : List (Bytes × Bytes) → List Bytes
 firsts = map (λ pair. pair.0)
 
 -- a result that is put under a key of its own reads the other keys only

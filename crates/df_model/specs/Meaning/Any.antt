@@ -19,7 +19,7 @@ kind_of (Some (Value.Set members)) = Simple (codes "set")
 
 -- ---- rows of several keys, on the keyspace of these keys alone
 
-abbrev without_keys : List Bytes → Keyspace → Keyspace
+abbrev pub without_keys : List Bytes → Keyspace → Keyspace
 without_keys [] K = K
 without_keys (k ∷ ks) K = without_keys ks (map.remove K k)
 
@@ -28,7 +28,7 @@ abbrev pub del : List Bytes → Keyspace → Meaning
 del ks K = (count (map.len K - map.len (without_keys ks K)), without_keys ks K)
 
 -- a repeated key counts again
-abbrev present : Keyspace → List Bytes → ℕ
+abbrev pub present : Keyspace → List Bytes → ℕ
 present K [] = 0
 present K (k ∷ ks) = (if is_some (held K k) then 1 else 0) + present K ks
 
@@ -36,14 +36,14 @@ abbrev pub exists : List Bytes → Keyspace → Reply
 exists ks K = count (present K ks)
 
 -- d holds what s held, whatever d held, and s is gone; onto itself a key stays
-abbrev moved : Bytes → Bytes → Reply → Option Value → Keyspace → Meaning
+abbrev pub moved : Bytes → Bytes → Reply → Option Value → Keyspace → Meaning
 moved s d reply None K = (Error NoSuchKey, K)
 moved s d reply (Some value) K = (reply, map.insert (map.remove K s) d value)
 
 abbrev pub rename : Bytes → Bytes → Keyspace → Meaning
 rename s d K = moved s d ok (held K s) K
 
-abbrev moved_unless : Bytes → Bytes → Option Value → Option Value → Keyspace → Meaning
+abbrev pub moved_unless : Bytes → Bytes → Option Value → Option Value → Keyspace → Meaning
 moved_unless s d None there K = (Error NoSuchKey, K)
 moved_unless s d (Some value) None K = moved s d (count 1) (Some value) K
 moved_unless s d (Some value) (Some other) K = (count 0, K)

@@ -119,7 +119,7 @@ decr = incrby (negsuc 0)
 -- ---- rows of several keys, on the keyspace of these keys alone
 
 -- another kind of value is no string, and no error
-abbrev string_or_null : Option Value → Reply
+abbrev pub string_or_null : Option Value → Reply
 string_or_null None = NullBulk
 string_or_null (Some (Value.Str bytes)) = Bulk bytes
 string_or_null (Some (Value.Elements elements)) = NullBulk
@@ -130,14 +130,14 @@ abbrev pub mget : List Bytes → Keyspace → Reply
 mget ks K = array (map (λ k. string_or_null (held K k)) ks)
 
 -- pairs are put in order, so that the last one of a repeated key stays
-abbrev with_strings : List (Bytes × Bytes) → Keyspace → Keyspace
+abbrev pub with_strings : List (Bytes × Bytes) → Keyspace → Keyspace
 with_strings [] K = K
 with_strings (pair ∷ pairs) K = with_strings pairs (fin.insert K pair.0 (Value.Str pair.1))
 
 abbrev pub mset : List (Bytes × Bytes) → Keyspace → Meaning
 mset pairs K = (ok, with_strings pairs K)
 
-abbrev any_held : Keyspace → List (Bytes × Bytes) → Bool
+abbrev pub any_held : Keyspace → List (Bytes × Bytes) → Bool
 any_held K [] = false
 any_held K (pair ∷ pairs) = is_some (held K pair.0) || any_held K pairs
 
