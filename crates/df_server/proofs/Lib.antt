@@ -4,5 +4,6 @@ pub mod FeedLaws
 pub mod KeyLaws
 pub mod RunLaws
 pub mod ServedLaws
+pub mod TableLaws
 pub mod TurnLaws
 pub mod WriteLaws

@@ -4,3 +4,4 @@ pub mod Promise
 pub mod Responses
 pub mod Serving
 pub mod Strings
+pub mod Tables

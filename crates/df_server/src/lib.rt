@@ -3,9 +3,11 @@
 
 mod controls;
 mod keys;
+mod lines;
 mod pipe;
 mod program;
 mod session;
+mod table;
 
 pub use program::offline;
 
