@@ -2,3 +2,4 @@ pub mod OrderLaws
 pub mod SearchLaws
 pub mod PlaceLaws
 pub mod MergeLaws
+pub mod SetLaws

@@ -3,13 +3,12 @@ use Rattle.std.proofs.Common.{◌≡◌, ℕ, zero, suc, ◌<◌, ◌≤◌, Boo
 use Rattle.std.specs.Prelude.{Option, Some, None, T, not, MatchResult}
 use Rattle.std.specs.List.{insert, remove}
 use Rattle.std.specs.List.Sorted.{IsSearchInRange, IsBinarySearchResult}
-use Rattle.std.specs.Ordering.{is_eq, eq_by_cmp}
+use Rattle.std.specs.Ordering.{eq_by_cmp}
 use Rattle.std.specs.Cmp.{eq_by_cmp_equiv}
 use Rattle.std.specs.Cmp.Lexicographic.{nat_list_cmp_total}
-use Rattle.std.specs.declared.cmp.Ordering.TheVariants.{Less, Equal, Greater}
 use Rattle.std.specs.FinMap.{FinMap, put, find, is_sorted}
 use Rattle.std.specs.FinMap as map
-use Rattle.std.specs.FinMap.Entries.{where_key, is_sorted-put, is_sorted-where_key, find-where_key}
+use Rattle.std.specs.FinMap.Entries.{where_key, is_sorted-where_key, find-where_key}
 use Rattle.df_model.specs.Values.{Bytes}
 use Rattle.df_colls.specs.Roomy.{order}
 use Rattle.df_colls.specs.Places.{made, Makes, Present, Absent}
@@ -48,12 +47,15 @@ module _ {X : Type 0} where
   where_is : (p : Bytes → Bool) (es fs : List (Bytes × X)) (m : FinMap order X) → T (is_sorted order es) → ((q : Bytes) → map.get m q ≡ cond (p q) (map.get (made es) q) None) → where_key order p es ≡ fs → Makes fs m
   where_is p es fs m s gets e =
       let s' = subst (λ xs. T (is_sorted order xs)) e (is_sorted-where_key order p es s) in
-      record { sorted = s'; same = sym (map.same_map nat_list_cmp_total same_key _ _ (λ q.
-        gets q
-        ∙ ap (λ x. cond (p q) x None) (map.get-from_sorted order es q s)
-        ∙ sym (find-where_key order p q (λ x t. ap p (sym (same_key q x t))) es)
-        ∙ ap (find order q) e
-        ∙ sym (map.get-from_sorted order fs q s'))) }
+      record {
+        sorted = s';
+        same = sym (map.same_map nat_list_cmp_total same_key _ _ (λ q.
+            gets q
+            ∙ ap (λ x. cond (p q) x None) (map.get-from_sorted order es q s)
+            ∙ sym (find-where_key order p q (λ x t. ap p (sym (same_key q x t))) es)
+            ∙ ap (find order q) e
+            ∙ sym (map.get-from_sorted order fs q s')));
+      }
 
   unless_is : (k : Bytes) (es fs : List (Bytes × X)) → T (is_sorted order es) → unless k es ≡ fs → Makes fs (map.remove (made es) k)
   unless_is k es fs s e = where_is _ es fs _ s (λ q.
@@ -65,8 +67,8 @@ module _ {X : Type 0} where
   retained p m fs e =
       let same = (makes (map.entries m) m refl).same in
       where_is p (map.entries m) fs _ (map.entries_sorted m) (λ q.
-        map.get-retain_keys m p q (λ x t. ap p (sym (same_key q x t)))
-        ∙ ap (λ n. cond (p q) (map.get n q) None) (sym same)) (sym e)
+      map.get-retain_keys m p q (λ x t. ap p (sym (same_key q x t)))
+      ∙ ap (λ n. cond (p q) (map.get n q) None) (sym same)) (sym e)
 
   -- ---- where the key is
 

@@ -32,6 +32,7 @@ pub(crate) fn kept(
     Ok(kept)
 }
 
+/// Whether the others have it, or haven't.
 fn is_kept(member: &Bin, other: &Entries<()>, inside: bool) -> bool
     ensures { result ≡ is_kept inside other.now.contents member.now }
 {

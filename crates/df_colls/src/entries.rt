@@ -35,7 +35,7 @@ impl<X> Model for Entries<X> {
 }
 
 impl<X: Drop> Entries<X> {
-    /// Takes no memory.
+    /// No entries. Takes no memory.
     pub(crate) fn new(alloc: Global) -> Entries<X>
         ensures { result.contents ≡ map.empty }
     {
@@ -52,6 +52,7 @@ impl<X: Drop> Entries<X> {
         Entries { items }
     }
 
+    /// How many entries there are.
     pub(crate) fn len(&self) -> usize
         ensures { result ≡ map.len self.now.contents }
     {
@@ -116,7 +117,8 @@ impl<X: Drop> Entries<X> {
         self.as_slice().get(i)
     }
 
-    /// Entries from this place on, at least one where there is one. A loop over all of them goes from run to run.
+    /// Entries from this place on, at least one where there is one. A loop over all of them goes from
+    /// run to run.
     pub(crate) fn run(&self, from: usize) -> &[(Bin, X)]
         ensures front { IsFront (drop from (map.entries self.now.contents)) result.now }
         ensures goes_on { from < map.len self.now.contents → 0 < length result.now }

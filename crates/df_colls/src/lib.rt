@@ -9,6 +9,8 @@ mod copies;
 mod entries;
 mod hash;
 mod set;
+#[cfg(test)]
+mod tests;
 
 pub use hash::HashVal;
 pub use set::SetVal;

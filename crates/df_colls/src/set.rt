@@ -120,7 +120,12 @@ impl SetVal {
         ensures { IfOk result
             (λ both. both.members ≡ members.intersection self.now.members other.now.members) }
     {
-        self.kept(alloc, other, true)
+        // The smaller set is gone through, and the larger is looked up in.
+        if self.len() <= other.len() {
+            self.kept(alloc, other, true)
+        } else {
+            other.kept(alloc, self, true)
+        }
     }
 
     /// The members that either has.

@@ -8,4 +8,4 @@ pub returns : goal.returns
 returns g c =
     let key = c.args.key.now in
     placed key c.args.items.now.items c.binary_search_by.result c.requires c.deref.result.now c.deref.ensures.value c.binary_search_by.ensures.bound
-      (c.binary_search_by.ensures.position (λ y. order y.0 key) (answers_by _ _ (λ f. f.0.now.now ≡ key) (λ f a r f' called same. search rules) _ refl))
+    (c.binary_search_by.ensures.position (λ y. order y.0 key) (answers_by _ _ (λ f. f.0.now.now ≡ key) (λ f a r f' called same. search rules) _ refl))

@@ -1,4 +1,4 @@
-use Rattle.std.proofs.Common.{◌≡◌, sym, ap, ◌∙◌}
+use Rattle.std.proofs.Common.{◌≡◌, ◌∙◌}
 use Rattle.std.specs.FinMap as map
 use Rattle.df_colls.proofs.PlaceLaws.{makes}
 use Rattle.df_colls.proofs.entries.Entries.copy.Goals as goal
