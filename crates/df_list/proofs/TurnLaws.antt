@@ -1,7 +1,7 @@
 -- A turn of a queue: `left` of its elements are still to be looked at, and the others went to its end.
-use Rattle.std.proofs.Common.{◌≡◌, ℕ, zero, suc, ◌+◌, ◌-◌, ◌<◌, ◌≤◌, Bool, true, false, if◌then◌else◌, cond, List, [], ◌∷◌, ◌++◌, length, take, drop, reverse, refl, sym, ap, ◌∙◌, arith, add-one, not}
+use Rattle.std.proofs.Common.{◌≡◌, ℕ, zero, suc, ◌-◌, ◌<◌, ◌≤◌, true, false, if◌then◌else◌, List, [], ◌∷◌, ◌++◌, length, take, drop, reverse, refl, sym, ap, ◌∙◌, arith, not}
 use Rattle.std.specs.List.{filter}
-use Rattle.std.proofs.lemmas.List.{drop-append-le, take-append-le, take-append-drop, take_all, drop_all, drop_min, append_assoc, append-nil, reverse-append, reverse-reverse, length-reverse, length-drop, take_at, drop_at}
+use Rattle.std.proofs.lemmas.List.{drop-append-le, take-append-le, take-append-drop, append_assoc, reverse-append, reverse-reverse, length-reverse, length-drop, take_at, drop_at}
 use Rattle.df_model.specs.Values.{Bytes}
 use Rattle.df_model.specs.Words.{same}
 use Rattle.df_model.specs.Meaning.Lists.{without_first}
