@@ -87,6 +87,13 @@ impl<T> Reserved<T> {
         self.items.as_slice()
     }
 
+    /// The elements, moved out; the room goes with them. Takes no memory.
+    pub fn into_vec(self) -> Vec<T>
+        ensures { result.items ≡ self.items }
+    {
+        self.items
+    }
+
     /// Adds an element at the end. Takes no memory.
     pub fn push(&mut self, item: T)
         requires { 0 < self.old.spare }

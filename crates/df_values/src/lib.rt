@@ -1,0 +1,23 @@
+//! One key's value, what a command makes of it, and the bytes of its reply.
+//!
+//! A command is prepared first: its reply, and a `Change` for which all memory is there. Then the change is
+//! made, and can't fail. What a value is to a command stands in specs/Seen, what a change makes of it in
+//! specs/Edits, and what a prepared command promises in specs/Prepares.
+#![tactic(auto)]
+
+mod change;
+mod edit;
+mod pieces;
+mod replies;
+mod rest;
+mod short;
+mod string;
+#[cfg(test)]
+mod tests;
+mod value;
+
+pub use change::{Change, Prepared};
+pub use edit::Edit;
+pub use pieces::Pieces;
+pub use string::StrVal;
+pub use value::Value;

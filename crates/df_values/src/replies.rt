@@ -1,0 +1,169 @@
+//! Replies, each written straight to where it stays.
+
+ghost use Rattle.std.specs.Prelude.{◌≡◌, ◌++◌, codes, decimal, pos, length, IfOk, OnOk};
+ghost use Rattle.df_model.specs.Outcomes as outcomes;
+ghost use Rattle.df_model.specs.Replies.{encoding_of, crlf};
+ghost use Rattle.df_model.specs.declared.reply.Reply.TheVariants.{Simple, Error as ErrorReply, Int, Bulk, NullBulk, NullArray};
+
+use crate::Pieces;
+use crate::short::ROOM;
+use df_model::{ErrorText, NoMemory};
+use itoa::Buffer;
+use std::alloc::Global;
+
+/// The bytes of a bulk beside its own and those of its length: a mark and two line ends.
+const AROUND_BULK: usize = 5;
+
+/// The bytes of a line beside its text: a mark and the line end.
+const AROUND_LINE: usize = 3;
+
+impl Pieces {
+    /// Adds a short text that has no line end, such as OK. Where memory runs out, nothing is said of what stands.
+    pub fn add_simple(&mut self, text: &[u8]) -> Result<(), NoMemory>
+        ensures { OnOk result (self.new ≡ self.old ++ encoding_of (Simple text.now)) }
+    {
+        self.add_line(b"+", text)
+    }
+
+    /// Adds an error.
+    pub fn add_error(&mut self, error: &ErrorText) -> Result<(), NoMemory>
+        ensures { OnOk result (self.new ≡ self.old ++ encoding_of (ErrorReply error.now)) }
+    {
+        self.rest.add_error(error)
+    }
+
+    /// Adds a number.
+    pub fn add_int(&mut self, n: i64) -> Result<(), NoMemory>
+        ensures { OnOk result (self.new ≡ self.old ++ encoding_of (Int n)) }
+    {
+        let mut buffer = Buffer::new();
+        self.add_line(b":", buffer.format(n).as_bytes())
+    }
+
+    /// Adds a count, as a number.
+    pub fn add_count(&mut self, n: usize) -> Result<(), NoMemory>
+        ensures { OnOk result (self.new ≡ self.old ++ encoding_of (outcomes.count n)) }
+    {
+        let mut buffer = Buffer::new();
+        self.add_line(b":", buffer.format(n).as_bytes())
+    }
+
+    /// Adds bytes of whatever kind.
+    pub fn add_bulk(&mut self, bytes: &[u8]) -> Result<(), NoMemory>
+        ensures { OnOk result (self.new ≡ self.old ++ encoding_of (Bulk bytes.now)) }
+    {
+        if self.rest.is_empty() && bytes.len() < ROOM {
+            let mut buffer = Buffer::new();
+            let digits = buffer.format(bytes.len()).as_bytes();
+            if digits.len() + bytes.len() + AROUND_BULK <= self.short.room() {
+                self.short.add_bulk(digits, bytes);
+                return Ok(());
+            }
+        }
+        self.rest.add_bulk(bytes)
+    }
+
+    /// Adds what stands for a value that isn't there.
+    pub fn add_null(&mut self) -> Result<(), NoMemory>
+        ensures { OnOk result (self.new ≡ self.old ++ encoding_of NullBulk) }
+    {
+        self.add(b"$-1\r\n")
+    }
+
+    /// Adds what stands for an array that isn't there.
+    pub fn add_null_array(&mut self) -> Result<(), NoMemory>
+        ensures { OnOk result (self.new ≡ self.old ++ encoding_of NullArray) }
+    {
+        self.add(b"*-1\r\n")
+    }
+
+    /// Adds the line before the replies of an array, which says how many follow.
+    pub fn add_array_head(&mut self, n: usize) -> Result<(), NoMemory>
+        ensures { OnOk result (self.new ≡ self.old ++ (codes "*" ++ decimal n ++ crlf)) }
+    {
+        let mut buffer = Buffer::new();
+        self.add_line(b"*", buffer.format(n).as_bytes())
+    }
+
+    fn add_line(&mut self, mark: &[u8], text: &[u8]) -> Result<(), NoMemory>
+        requires { length mark.now ≡ 1 }
+        ensures { OnOk result (self.new ≡ self.old ++ (mark.now ++ text.now ++ crlf)) }
+    {
+        if self.rest.is_empty()
+            && text.len() < ROOM
+            && text.len() + AROUND_LINE <= self.short.room()
+        {
+            self.short.add_line(mark, text);
+            return Ok(());
+        }
+        self.rest.add_line(mark, text)
+    }
+}
+
+// Whole replies.
+impl Pieces {
+    pub fn of_simple(alloc: Global, text: &[u8]) -> Result<Pieces, NoMemory>
+        ensures { IfOk result (λ pieces. pieces ≡ encoding_of (Simple text.now)) }
+    {
+        let mut pieces = Pieces::new(alloc);
+        pieces.add_simple(text)?;
+        Ok(pieces)
+    }
+
+    /// OK.
+    pub fn of_ok(alloc: Global) -> Result<Pieces, NoMemory>
+        ensures { IfOk result (λ pieces. pieces ≡ encoding_of outcomes.ok) }
+    {
+        Pieces::of_simple(alloc, b"OK")
+    }
+
+    pub fn of_error(alloc: Global, error: &ErrorText) -> Result<Pieces, NoMemory>
+        ensures { IfOk result (λ pieces. pieces ≡ encoding_of (ErrorReply error.now)) }
+    {
+        let mut pieces = Pieces::new(alloc);
+        pieces.add_error(error)?;
+        Ok(pieces)
+    }
+
+    pub fn of_int(alloc: Global, n: i64) -> Result<Pieces, NoMemory>
+        ensures { IfOk result (λ pieces. pieces ≡ encoding_of (Int n)) }
+    {
+        let mut pieces = Pieces::new(alloc);
+        pieces.add_int(n)?;
+        Ok(pieces)
+    }
+
+    pub fn of_count(alloc: Global, n: usize) -> Result<Pieces, NoMemory>
+        ensures { IfOk result (λ pieces. pieces ≡ encoding_of (outcomes.count n)) }
+    {
+        let mut pieces = Pieces::new(alloc);
+        pieces.add_count(n)?;
+        Ok(pieces)
+    }
+
+    pub fn of_bulk(alloc: Global, bytes: &[u8]) -> Result<Pieces, NoMemory>
+        ensures { IfOk result (λ pieces. pieces ≡ encoding_of (Bulk bytes.now)) }
+    {
+        let mut pieces = Pieces::new(alloc);
+        pieces.add_bulk(bytes)?;
+        Ok(pieces)
+    }
+
+    /// What stands for a value that isn't there.
+    pub fn of_null(alloc: Global) -> Result<Pieces, NoMemory>
+        ensures { IfOk result (λ pieces. pieces ≡ encoding_of NullBulk) }
+    {
+        let mut pieces = Pieces::new(alloc);
+        pieces.add_null()?;
+        Ok(pieces)
+    }
+
+    /// What stands for an array that isn't there.
+    pub fn of_null_array(alloc: Global) -> Result<Pieces, NoMemory>
+        ensures { IfOk result (λ pieces. pieces ≡ encoding_of NullArray) }
+    {
+        let mut pieces = Pieces::new(alloc);
+        pieces.add_null_array()?;
+        Ok(pieces)
+    }
+}
