@@ -8,7 +8,7 @@ ghost use Rattle.df_model.specs.Values.{Bytes};
 ghost use Rattle.df_model.specs.Keyspace.{no_keys};
 ghost use Rattle.df_server.specs.Pipe.{IsGood, Reached, Answering, SaysBad, HasWritten, after_of, status_of, Turns, ReadsOn, Ran, Underway};
 
-use crate::keys::Keys;
+use crate::table::Table;
 use crate::session::{Handled, serve};
 use df_model::BadKind;
 use df_outside::{Got, Put, Sink, Source};
@@ -75,12 +75,12 @@ enum Answered {
     NoMemory,
 }
 
-/// A session: what was read and isn't answered yet, its keyspace, and its answers.
+/// A session: what was read and isn't answered yet, its keys, and its answers.
 #[derive(Drop)]
 struct Session {
     alloc: Global,
     reader: Reader,
-    keys: Keys,
+    table: Table,
     output: Vec<u8>,
 }
 
@@ -100,12 +100,12 @@ impl Session {
         ensures good { IsGood result.reader }
         ensures rest { result.reader.rest ≡ [] }
         ensures before { result.reader.before ≡ 0 }
-        ensures keys { result.keys ≡ no_keys }
+        ensures keys { result.table.keys ≡ no_keys }
     {
         Session {
             alloc,
             reader: Reader::new(alloc),
-            keys: Keys::new(alloc),
+            table: Table::new(alloc),
             output: Vec::new(alloc),
         }
     }
@@ -115,7 +115,7 @@ impl Session {
         requires good { IsGood self.old.reader }
         requires rest { self.old.reader.rest ≡ [] }
         requires before { self.old.reader.before ≡ 0 }
-        requires keys { self.old.keys ≡ no_keys }
+        requires keys { self.old.table.keys ≡ no_keys }
         requires room { 0 < length buffer.old }
         ensures { Ran result (S.inflow input.old) (S.inflow input.new) (O.outflow out.old) (O.outflow out.new) }
     {
@@ -145,7 +145,7 @@ impl Session {
         ensures good { OnOk result (IsGood self.new.reader) }
         ensures some { IfOk result (λ count. 0 < count) }
         ensures fits { IfOk result (λ count. count ≤ length buffer.old) }
-        ensures reads { ReadsOn result taken self.old.keys self.new.keys self.old.reader self.new.reader (S.inflow input.old) (S.inflow input.new) (O.outflow out.old) (O.outflow out.new) }
+        ensures reads { ReadsOn result taken self.old.table.keys self.new.table.keys self.old.reader self.new.reader (S.inflow input.old) (S.inflow input.new) (O.outflow out.old) (O.outflow out.new) }
     {
         match input.read(buffer) {
             Got::Took(count) => {
@@ -164,8 +164,8 @@ impl Session {
     fn turn<O: Sink>(&mut self, piece: &[u8], out: &mut O) -> Result<(), End>
         requires { IsGood self.old.reader }
         ensures good { OnOk result (IsGood self.new.reader) }
-        ensures turns { (bytes sent : Bytes) → Reached bytes sent self.old.keys self.old.reader →
-            Turns result (bytes ++ piece.now) sent self.new.keys self.new.reader (O.outflow out.old) (O.outflow out.new) }
+        ensures turns { (bytes sent : Bytes) → Reached bytes sent self.old.table.keys self.old.reader →
+            Turns result (bytes ++ piece.now) sent self.new.table.keys self.new.reader (O.outflow out.old) (O.outflow out.new) }
     {
         let answered = self.answer_piece(piece);
         let written = write_all(self.output.as_slice(), out);
@@ -176,8 +176,8 @@ impl Session {
     fn answer_piece(&mut self, piece: &[u8]) -> Answered
         requires { IsGood self.old.reader }
         ensures good { result ≡ Answered.All → IsGood self.new.reader }
-        ensures answering { (bytes sent : Bytes) → Reached bytes sent self.old.keys self.old.reader →
-            Answering result (bytes ++ piece.now) (sent ++ self.new.output.items) self.new.keys self.new.reader }
+        ensures answering { (bytes sent : Bytes) → Reached bytes sent self.old.table.keys self.old.reader →
+            Answering result (bytes ++ piece.now) (sent ++ self.new.output.items) self.new.table.keys self.new.reader }
     {
         self.output.clear();
         if self.reader.feed(piece).is_err() {
@@ -190,15 +190,15 @@ impl Session {
     fn answer_all(&mut self) -> Answered
         requires { IsGood self.old.reader }
         ensures good { result ≡ Answered.All → IsGood self.new.reader }
-        ensures answering { (bytes sent : Bytes) → Reached bytes (sent ++ self.old.output.items) self.old.keys self.old.reader →
-            Answering result bytes (sent ++ self.new.output.items) self.new.keys self.new.reader }
+        ensures answering { (bytes sent : Bytes) → Reached bytes (sent ++ self.old.output.items) self.old.table.keys self.old.reader →
+            Answering result bytes (sent ++ self.new.output.items) self.new.table.keys self.new.reader }
     {
         'requests: loop {
             match self.reader.next() {
                 Ok(Next::Words(words)) => {
                     match serve(
                         self.alloc,
-                        &mut self.keys,
+                        &mut self.table,
                         words.as_slice(),
                         &mut self.output,
                     ) {

@@ -40,31 +40,31 @@ pub enum Handled {
 /// Answers a request: adds the reply's bytes, and changes the keyspace as the command says.
 pub fn serve(
     alloc: Global,
-    keys: &mut Keys,
+    table: &mut Table,
     words: &[Bytes],
     out: &mut Vec<u8>,
 ) -> Result<Handled, NoMemory>
-    ensures ok { IfOk result (λ handled. IsHandled handled (session_step State.Ready words.now).0 keys.old keys.new out.old.items out.new.items) }
-    ensures keys { OnErr result (keys.new ≡ keys.old) }
+    ensures ok { IfOk result (λ handled. IsHandled handled (session_step State.Ready words.now).0 table.old.keys table.new.keys out.old.items out.new.items) }
+    ensures keys { OnErr result (table.new.keys ≡ table.old.keys) }
     ensures out { OnErr result (out.new.items ≡ out.old.items) }
 {
     match words {
-        [] => serve_command(alloc, keys, words, out),
-        [name, behind @ ..] => serve_named(alloc, keys, name.as_slice(), behind, words, out),
+        [] => serve_command(alloc, table, words, out),
+        [name, behind @ ..] => serve_named(alloc, table, name.as_slice(), behind, words, out),
     }
 }
 
 /// The words are this name and those behind it.
 fn serve_named(
     alloc: Global,
-    keys: &mut Keys,
+    table: &mut Table,
     name: &[u8],
     behind: &[Bytes],
     words: &[Bytes],
     out: &mut Vec<u8>,
 ) -> Result<Handled, NoMemory>
-    ensures ok { IfOk result (λ handled. IsHandled handled (ready_step (heard_by controls name.now behind.now (heard_as (reads_linked words.now)))).0 keys.old keys.new out.old.items out.new.items) }
-    ensures keys { OnErr result (keys.new ≡ keys.old) }
+    ensures ok { IfOk result (λ handled. IsHandled handled (ready_step (heard_by controls name.now behind.now (heard_as (reads_linked words.now)))).0 table.old.keys table.new.keys out.old.items out.new.items) }
+    ensures keys { OnErr result (table.new.keys ≡ table.old.keys) }
     ensures out { OnErr result (out.new.items ≡ out.old.items) }
 {
     if is_name(name, "quit") {
@@ -72,21 +72,21 @@ fn serve_named(
     } else if is_name(name, "shutdown") {
         shutdown(alloc, behind, out)
     } else {
-        serve_command(alloc, keys, words, out)
+        serve_command(alloc, table, words, out)
     }
 }
 
 fn serve_command(
     alloc: Global,
-    keys: &mut Keys,
+    table: &mut Table,
     words: &[Bytes],
     out: &mut Vec<u8>,
 ) -> Result<Handled, NoMemory>
-    ensures ok { IfOk result (λ handled. IsHandled handled (ready_step (heard_as (reads_linked words.now))).0 keys.old keys.new out.old.items out.new.items) }
-    ensures keys { OnErr result (keys.new ≡ keys.old) }
+    ensures ok { IfOk result (λ handled. IsHandled handled (ready_step (heard_as (reads_linked words.now))).0 table.old.keys table.new.keys out.old.items out.new.items) }
+    ensures keys { OnErr result (table.new.keys ≡ table.old.keys) }
     ensures out { OnErr result (out.new.items ≡ out.old.items) }
 {
-    match answer(alloc, keys, words, out) {
+    match answer(alloc, table, words, out) {
         Ok(()) => {}
         Err(_) => encode_error(&ErrorText::Memory, out)?,
     }
@@ -95,110 +95,52 @@ fn serve_command(
 
 fn answer(
     alloc: Global,
-    keys: &mut Keys,
+    table: &mut Table,
     words: &[Bytes],
     out: &mut Vec<u8>,
 ) -> Result<(), NoMemory>
-    ensures ok { OnOk result (Gives (response (reads_linked words.now) keys.old) keys.new out.old.items out.new.items) }
-    ensures keys { OnErr result (keys.new ≡ keys.old) }
+    ensures ok { OnOk result (Gives (response (reads_linked words.now) table.old.keys) table.new.keys out.old.items out.new.items) }
+    ensures keys { OnErr result (table.new.keys ≡ table.old.keys) }
     ensures out { OnErr result (out.new.items ≡ out.old.items) }
 {
     match read_linked(alloc, words) {
-        Ok(command) => run(keys, command, out),
+        Ok(command) => run(alloc, table, command, out),
         Err(Refusal::Unknown) => encode_error(&ErrorText::Unknown, out),
         Err(Refusal::Arity(error)) => encode_error(&error, out),
         Err(Refusal::NoMemory) => Err(NoMemory),
     }
 }
 
-/// Runs a command that is linked to the session's table.
-fn run(keys: &mut Keys, command: Command, out: &mut Vec<u8>) -> Result<(), NoMemory>
+/// Runs a command that is linked to the session's table of commands.
+fn run(
+    alloc: Global,
+    table: &mut Table,
+    command: Command,
+    out: &mut Vec<u8>,
+) -> Result<(), NoMemory>
     requires { IsLinked command }
-    ensures ok { OnOk result (Gives (meaning command keys.old) keys.new out.old.items out.new.items) }
-    ensures keys { OnErr result (keys.new ≡ keys.old) }
+    ensures ok { OnOk result (Gives (meaning command table.old.keys) table.new.keys out.old.items out.new.items) }
+    ensures keys { OnErr result (table.new.keys ≡ table.old.keys) }
     ensures out { OnErr result (out.new.items ≡ out.old.items) }
 {
     match command {
-        Command::Plain(PlainOp::Ping(message)) => ping(message, out),
-        Command::One(key, op) => run_one(keys, key, op, out),
+        Command::Plain(op) => run_plain(op, out),
+        Command::One(key, op) => run_one(alloc, table, key, op, out),
+        Command::Many(op) => run_many(alloc, table, op, out),
+        Command::Whole(op) => run_whole(alloc, table, op, out),
         Command::Wrong(error) => encode_error(&error, out),
-        _ => unreachable!(),
     }
 }
 
-fn ping(message: Option<Bin>, out: &mut Vec<u8>) -> Result<(), NoMemory>
-    ensures ok { OnOk result (out.new.items ≡ out.old.items ++ encoding_of (keyless.ping message)) }
+/// A command that needs no keys.
+fn run_plain(op: PlainOp, out: &mut Vec<u8>) -> Result<(), NoMemory>
+    ensures ok { OnOk result (out.new.items ≡ out.old.items ++ encoding_of (plain op)) }
     ensures err { OnErr result (out.new.items ≡ out.old.items) }
-{
-    match message {
-        None => encode_simple(b"PONG", out),
-        Some(message) => encode_bulk(message.as_slice(), out),
-    }
-}
-
-fn run_one(keys: &mut Keys, key: Bin, op: OneOp, out: &mut Vec<u8>) -> Result<(), NoMemory>
-    requires { IsLinked (Command.One key op) }
-    ensures ok { OnOk result (Gives (meaning (Command.One key op) keys.old) keys.new out.old.items out.new.items) }
-    ensures keys { OnErr result (keys.new ≡ keys.old) }
-    ensures out { OnErr result (out.new.items ≡ out.old.items) }
 {
     match op {
-        OneOp::Get => get(keys, &key, out),
-        OneOp::Set(value, guard) => set(keys, key, value, guard, out),
-        _ => unreachable!(),
+        PlainOp::Ping(None) => encode_simple(b"PONG", out),
+        PlainOp::Ping(Some(message)) => encode_bulk(message.as_slice(), out),
+        PlainOp::Echo(message) => encode_bulk(message.as_slice(), out),
+        PlainOp::Select(_) => encode_simple(b"OK", out),
     }
-}
-
-fn get(keys: &Keys, key: &Bin, out: &mut Vec<u8>) -> Result<(), NoMemory>
-    ensures ok { OnOk result (out.new.items ≡ out.old.items ++ encoding_of (strings.looks strings.get (held keys.now key.now))) }
-    ensures err { OnErr result (out.new.items ≡ out.old.items) }
-{
-    match keys.get(key) {
-        None => encode_null(out),
-        Some(value) => encode_bulk(value.as_slice(), out),
-    }
-}
-
-fn set(
-    keys: &mut Keys,
-    key: Bin,
-    value: Bin,
-    guard: Guard,
-    out: &mut Vec<u8>,
-) -> Result<(), NoMemory>
-    ensures ok { OnOk result (Gives (meaning (Command.One key (OneOp.Set value guard)) keys.old) keys.new out.old.items out.new.items) }
-    ensures keys { OnErr result (keys.new ≡ keys.old) }
-    ensures out { OnErr result (out.new.items ≡ out.old.items) }
-{
-    if allows(keys, &key, guard) {
-        put(keys, key, value, out)
-    } else {
-        encode_null(out)
-    }
-}
-
-/// Whether the guard lets a SET put its value.
-fn allows(keys: &Keys, key: &Bin, guard: Guard) -> bool
-    ensures { result ≡ guard_allows guard (held keys.now key.now) }
-{
-    match guard {
-        Guard::Always => true,
-        Guard::Nx => keys.get(key).is_none(),
-        Guard::Xx => keys.get(key).is_some(),
-    }
-}
-
-/// Puts the value and answers OK.
-fn put(keys: &mut Keys, key: Bin, value: Bin, out: &mut Vec<u8>) -> Result<(), NoMemory>
-    ensures ok { OnOk result (Gives (outcomes.ok, with_held keys.old key (Some (Value.Str value))) keys.new out.old.items out.new.items) }
-    ensures keys { OnErr result (keys.new ≡ keys.old) }
-    ensures out { OnErr result (out.new.items ≡ out.old.items) }
-{
-    let len = out.len();
-    encode_simple(b"OK", out)?;
-    if let Err(refused) = keys.put(key, value) {
-        out.truncate(len);
-        return Err(refused);
-    }
-    Ok(())
 }

@@ -7,7 +7,7 @@ abbrev pub invariant-turns : goal.invariant-turns
 invariant-turns g l = record {
   good : IsGood l.self.reader;
   within : l.taken ≤ INPUT_LIMIT;
-  underway : Underway l.taken l.self.keys l.self.reader (g.S.Source.inflow l.fn.input) (g.S.Source.inflow l.input) (g.O.Sink.outflow l.fn.out) (g.O.Sink.outflow l.out);
+  underway : Underway l.taken l.self.table.keys l.self.reader (g.S.Source.inflow l.fn.input) (g.S.Source.inflow l.input) (g.O.Sink.outflow l.fn.out) (g.O.Sink.outflow l.out);
 }
 
 abbrev pub decreases-turns : goal.decreases-turns

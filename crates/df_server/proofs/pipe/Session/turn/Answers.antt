@@ -12,8 +12,8 @@ returns-clause-turns g c = λ bytes sent s.
     let now = g.O.Sink.outflow c.write_all-written.new.out in
     let written : HasWritten c.write_all-written.result new.output.items before now =
     subst (λ x. HasWritten c.write_all-written.result x before now) c.as_slice.ensures.value c.write_all-written.ensures in
-    subst (λ r. Turns r fed sent new.keys new.reader before now) (sym c.after.ensures)
-    (turn_law c.answer_piece-answered.result c.write_all-written.result fed sent new.output.items new.reader new.keys before now (c.answer_piece-answered.ensures.answering bytes sent s) written)
+    subst (λ r. Turns r fed sent new.table.keys new.reader before now) (sym c.after.ensures)
+    (turn_law c.answer_piece-answered.result c.write_all-written.result fed sent new.output.items new.reader new.table.keys before now (c.answer_piece-answered.ensures.answering bytes sent s) written)
 
 pub returns-clause-good : goal.returns-clause-good
 returns-clause-good g c =

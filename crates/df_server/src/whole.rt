@@ -1,0 +1,37 @@
+//! Commands of the whole keyspace.
+
+ghost use Rattle.std.specs.Prelude.{◌≡◌, ◌++◌, OnOk, OnErr};
+ghost use Rattle.df_model.specs.Meaning.{whole};
+ghost use Rattle.df_model.specs.Meaning.Keyless as keyless;
+ghost use Rattle.df_model.specs.Replies.{encoding_of};
+ghost use Rattle.df_model.specs.Reads.{IsLinked};
+ghost use Rattle.df_server.specs.Responses.{Gives};
+
+use crate::table::Table;
+use df_model::{Bin, NoMemory, WholeOp};
+use df_resp::{encode_array_head, encode_bulk, encode_count, encode_simple};
+use std::alloc::Global;
+
+/// Runs a command of the whole keyspace.
+pub fn run_whole(
+    alloc: Global,
+    table: &mut Table,
+    op: WholeOp,
+    out: &mut Vec<u8>,
+) -> Result<(), NoMemory>
+    requires { IsLinked (Command.Whole op) }
+    ensures ok { OnOk result (Gives (whole op table.old.keys) table.new.keys out.old.items out.new.items) }
+    ensures keys { OnErr result (table.new.keys ≡ table.old.keys) }
+    ensures out { OnErr result (out.new.items ≡ out.old.items) }
+{
+    match op {
+        WholeOp::Dbsize => encode_count(table.len(), out),
+        WholeOp::Keys(pattern) => keys_like(alloc, table, &pattern, out),
+        WholeOp::Flushall | WholeOp::Flushdb => {
+            encode_simple(b"OK", out)?;
+            table.clear();
+            Ok(())
+        }
+        WholeOp::Save => unreachable!(),
+    }
+}
