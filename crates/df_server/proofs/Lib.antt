@@ -1,9 +1,9 @@
 pub mod AnswerLaws
 pub mod EndLaws
 pub mod FeedLaws
-pub mod KeyLaws
 pub mod RunLaws
 pub mod ServedLaws
+pub mod SeveralLaws
 pub mod TableLaws
 pub mod TurnLaws
 pub mod WriteLaws

@@ -1,7 +1,7 @@
 pub mod Answers
+pub mod Fates
 pub mod Pipe
 pub mod Promise
 pub mod Responses
 pub mod Serving
-pub mod Strings
 pub mod Tables

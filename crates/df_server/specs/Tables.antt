@@ -16,7 +16,3 @@ pub record Roomy : Type 0 where
 
 abbrev pub roomy_code : Coded Roomy
 roomy_code = code_by (Keyspace × ℕ) (coded× coded_keyspace coded_ℕ) (λ r. (r.keys, r.spare)) (λ p. record { keys = p.0; spare = p.1 }) (λ _. refl)
-
--- stand-in
-abbrev pub seen : Bytes → Value
-seen = Value.Str

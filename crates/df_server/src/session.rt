@@ -4,25 +4,22 @@
 //! first, and the put is the last step. So a command that finds none changes nothing, and the reply
 //! says so. Where that reply finds none either, nothing is added, and the session has to end.
 
-ghost use Rattle.std.specs.Prelude.{◌≡◌, ◌++◌, Some, OnOk, OnErr, IfOk};
-ghost use Rattle.df_model.specs.Values.{Value};
-ghost use Rattle.df_model.specs.Keyspace.{held, with_held};
-ghost use Rattle.df_model.specs.Outcomes as outcomes;
-ghost use Rattle.df_model.specs.Meaning.{meaning};
-ghost use Rattle.df_model.specs.Meaning.Keyless as keyless;
-ghost use Rattle.df_model.specs.Meaning.Strings as strings;
+ghost use Rattle.std.specs.Prelude.{◌≡◌, ◌++◌, OnOk, OnErr, IfOk};
+ghost use Rattle.df_model.specs.Meaning.{meaning, plain};
 ghost use Rattle.df_model.specs.Replies.{encoding_of};
 ghost use Rattle.df_model.specs.Reads.{IsLinked, reads_linked};
 ghost use Rattle.df_model.specs.Session.{State, controls, heard_as, heard_by, ready_step, session_step};
 ghost use Rattle.df_server.specs.Answers.{IsHandled};
-ghost use Rattle.df_server.specs.Responses.{response, Gives, guard_allows};
+ghost use Rattle.df_server.specs.Responses.{response, Gives};
 
 use crate::controls::{quit, shutdown};
-use crate::keys::Keys;
+use crate::many::run_many;
+use crate::table::Table;
+use crate::whole::run_whole;
 use bytes::Bytes;
-use df_model::{Bin, Command, ErrorText, Guard, NoMemory, OneOp, PlainOp};
+use df_model::{Command, ErrorText, NoMemory, PlainOp};
 use df_parse::{Refusal, read_linked};
-use df_resp::{encode_bulk, encode_error, encode_null, encode_simple};
+use df_resp::{encode_bulk, encode_error, encode_simple};
 use df_text::is_name;
 use std::alloc::Global;
 
@@ -125,7 +122,7 @@ fn run(
 {
     match command {
         Command::Plain(op) => run_plain(op, out),
-        Command::One(key, op) => run_one(alloc, table, key, op, out),
+        Command::One(key, op) => table.run_one(alloc, key, op, out),
         Command::Many(op) => run_many(alloc, table, op, out),
         Command::Whole(op) => run_whole(alloc, table, op, out),
         Command::Wrong(error) => encode_error(&error, out),

@@ -4,11 +4,15 @@
 //! it names. What if memory runs out? All of it is taken before the first key changes: room for new keys
 //! and for the reply's bytes.
 
-ghost use Rattle.std.specs.Prelude.{◌≡◌, ◌++◌, OnOk, OnErr};
+ghost use Rattle.std.specs.Prelude.{◌≡◌, ◌<◌, ◌≤◌, ◌++◌, length, is_some, IsTrue, OnOk, OnErr};
+ghost use Rattle.std.specs.Option.{option_copied, option_map};
+ghost use Rattle.df_model.specs.Keyspace.{held};
 ghost use Rattle.df_model.specs.Meaning.Any as any;
 ghost use Rattle.df_model.specs.Meaning.Strings as strings;
-ghost use Rattle.df_model.specs.Outcomes as outcomes;
 ghost use Rattle.df_model.specs.Replies.{encoding_of};
+ghost use Rattle.df_model.specs.declared.reply.Reply.{Reply};
+ghost use Rattle.df_resp.specs.Appended.{GrowsBy};
+ghost use Rattle.df_values.specs.Seen.{seen};
 ghost use Rattle.df_server.specs.Responses.{Gives};
 
 use crate::lines::{push_count, reserve_line};
@@ -78,7 +82,7 @@ fn push_strings(table: &Table, words: &[Bin], out: &mut Vec<u8>) -> Result<(), N
 }
 
 fn push_string(value: Option<&Value>, out: &mut Vec<u8>) -> Result<(), NoMemory>
-    ensures ok { OnOk result (out.new.items ≡ out.old.items ++ encoding_of (strings.string_or_null (option_map seen (option_copied value)))) }
+    ensures ok { OnOk result (out.new.items ≡ out.old.items ++ encoding_of (strings.string_or_null (option_map seen (option_copied value.entry)))) }
     ensures err { OnErr result (out.new.items ≡ out.old.items) }
 {
     match value {

@@ -3,13 +3,20 @@
 //! A map that hashes, so that a look-up costs the same however many keys there are. Room is taken apart from
 //! the puts that use it: a command of several keys takes all its room first, and then no put can fail.
 
-ghost use Rattle.std.specs.Prelude.{◌≡◌, ◌+◌, ◌<◌, ◌≤◌, Some, None, OnOk, is_some};
+ghost use Rattle.std.specs.Prelude.{◌≡◌, ◌+◌, ◌<◌, ◌≤◌, Some, None, OnOk, is_some, IsTrue, IfOk, OnErr, map};
+ghost use Rattle.std.specs.List.{filter};
+ghost use Rattle.df_model.specs.Patterns.{is_match};
 ghost use Rattle.std.specs.Option.{option_copied, option_map};
 ghost use Rattle.std.specs.FinMap as fin;
 ghost use Rattle.df_model.specs.Keyspace.{held, with_held, no_keys};
-ghost use Rattle.df_server.specs.Tables.{seen};
+ghost use Rattle.df_model.specs.Meaning.{one};
+ghost use Rattle.df_values.specs.Seen.{seen};
+ghost use Rattle.df_server.specs.Fates.{RanAt};
 
-use df_model::{Bin, NoMemory};
+use crate::one::{Fate, run_on};
+use df_model::{Bin, NoMemory, OneOp};
+use df_text::glob;
+use df_values::Value;
 use std::alloc::Global;
 use std::collections::HashMap;
 use std::marker::Model;
@@ -17,11 +24,12 @@ use std::marker::Model;
 /// Keys with their values, and room for more keys.
 #[derive(Drop)]
 pub struct Table {
-    map: HashMap<Bin, Bin>,
+    map: HashMap<Bin, Value>,
 }
 
 impl Model for Table {
-    ghost use Rattle.df_server.specs.Tables.{Roomy, roomy_code, keyspace_of, seen};
+    ghost use Rattle.df_server.specs.Tables.{Roomy, roomy_code, keyspace_of};
+    ghost use Rattle.df_values.specs.Seen.{seen};
     ghost use Rattle.std.specs.HashMap.{spare};
 
     ghost Value = { Roomy };
@@ -49,7 +57,7 @@ impl Table {
     }
 
     /// What the key holds, lent.
-    pub fn get(&self, key: &Bin) -> Option<&Bin>
+    pub fn get(&self, key: &Bin) -> Option<&Value>
         ensures { option_map seen (option_copied result) ≡ held self.now.keys key.now }
     {
         self.map.get(key)
@@ -73,7 +81,7 @@ impl Table {
     }
 
     /// Lets the key hold the value, in place of what it held. Takes no memory.
-    pub fn put(&mut self, key: Bin, value: Bin)
+    pub fn put(&mut self, key: Bin, value: Value)
         requires { 0 < self.old.spare }
         ensures keys { self.new.keys ≡ with_held self.old.keys key (Some (seen value)) }
         ensures spare { self.old.spare ≤ self.new.spare + 1 }
@@ -85,7 +93,7 @@ impl Table {
     }
 
     /// Removes the key, and answers what it held. Its room stays.
-    pub fn remove(&mut self, key: &Bin) -> Option<Bin>
+    pub fn remove(&mut self, key: &Bin) -> Option<Value>
         ensures keys { self.new.keys ≡ with_held self.old.keys key.now None }
         ensures old { option_map seen result ≡ held self.old.keys key.now }
         ensures spare { self.old.spare ≤ self.new.spare }
@@ -98,5 +106,38 @@ impl Table {
         ensures { self.new.keys ≡ no_keys }
     {
         self.map.clear();
+    }
+
+    /// Runs a command on what the key holds, but for the removal of the key.
+    pub fn run_on_held(
+        &mut self,
+        alloc: Global,
+        key: &Bin,
+        op: OneOp,
+        out: &mut Vec<u8>,
+    ) -> Result<Fate, NoMemory>
+        requires { IsTrue (is_some (held self.old.keys key.now)) }
+        ensures ok { IfOk result (λ fate. RanAt fate (one op) key.now self.old.keys self.new.keys out.old.items out.new.items) }
+        ensures keys { OnErr result (self.new.keys ≡ self.old.keys) }
+        ensures out { OnErr result (out.new.items ≡ out.old.items) }
+    {
+        match self.map.get_mut(key) {
+            Some(value) => run_on(alloc, op, value, out),
+            None => unreachable!(),
+        }
+    }
+
+    /// The keys that match the pattern, in byte order, lent.
+    pub fn names(&self, alloc: Global, pattern: &[u8]) -> Result<Vec<&Bin>, NoMemory>
+        ensures { IfOk result (λ names. map (λ name. name.now) names.items ≡ filter (is_match pattern.now) (fin.keys self.now.keys)) }
+    {
+        let mut names = Vec::new(alloc);
+        'keys: for key in self.map.keys() {
+            if glob(pattern, key.as_slice()) {
+                names.push(key)?;
+            }
+        }
+        names.sort_unstable();
+        Ok(names)
     }
 }

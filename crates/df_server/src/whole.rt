@@ -1,10 +1,12 @@
 //! Commands of the whole keyspace.
 
-ghost use Rattle.std.specs.Prelude.{◌≡◌, ◌++◌, OnOk, OnErr};
+ghost use Rattle.std.specs.Prelude.{◌≡◌, ◌++◌, map, OnOk, OnErr};
 ghost use Rattle.df_model.specs.Meaning.{whole};
 ghost use Rattle.df_model.specs.Meaning.Keyless as keyless;
+ghost use Rattle.df_model.specs.Outcomes.{bulks};
 ghost use Rattle.df_model.specs.Replies.{encoding_of};
 ghost use Rattle.df_model.specs.Reads.{IsLinked};
+ghost use Rattle.df_resp.specs.Appended.{GrowsBy};
 ghost use Rattle.df_server.specs.Responses.{Gives};
 
 use crate::table::Table;
@@ -34,4 +36,35 @@ pub fn run_whole(
         }
         WholeOp::Save => unreachable!(),
     }
+}
+
+/// KEYS.
+fn keys_like(
+    alloc: Global,
+    table: &Table,
+    pattern: &Bin,
+    out: &mut Vec<u8>,
+) -> Result<(), NoMemory>
+    ensures ok { OnOk result (out.new.items ≡ out.old.items ++ encoding_of (keyless.keys pattern.now table.now.keys).0) }
+    ensures err { OnErr result (out.new.items ≡ out.old.items) }
+{
+    let names = table.names(alloc, pattern.as_slice())?;
+    let len = out.len();
+    if let Err(refused) = push_names(names.as_slice(), out) {
+        out.truncate(len);
+        return Err(refused);
+    }
+    Ok(())
+}
+
+/// The names behind their count.
+fn push_names(names: &[&Bin], out: &mut Vec<u8>) -> Result<(), NoMemory>
+    ensures ok { OnOk result (out.new.items ≡ out.old.items ++ encoding_of (bulks (map (λ name. name.now) names.now))) }
+    ensures grows { GrowsBy out.old.items out.new.items }
+{
+    encode_array_head(names.len(), out)?;
+    'names: for name in names {
+        encode_bulk(name.as_slice(), out)?;
+    }
+    Ok(())
 }

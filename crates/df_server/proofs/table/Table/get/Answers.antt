@@ -1,7 +1,7 @@
 use Rattle.std.proofs.Common.{sym, ap, ◌∙◌}
 use Rattle.std.specs.Option.{option_map}
 use Rattle.df_model.specs.Keyspace.{held}
-use Rattle.df_server.specs.Tables.{seen}
+use Rattle.df_values.specs.Seen.{seen}
 use Rattle.df_server.proofs.TableLaws.{held_entry}
 use Rattle.df_server.proofs.table.Table.get.Goals as goal
 

@@ -1,6 +1,6 @@
 use Rattle.std.proofs.Common.{sym, ap, ◌∙◌}
 use Rattle.std.specs.FinMap as fin
-use Rattle.df_server.specs.Tables.{seen}
+use Rattle.df_values.specs.Seen.{seen}
 use Rattle.df_server.proofs.TableLaws.{len_entries}
 use Rattle.df_server.proofs.table.Table.len.Goals as goal
 

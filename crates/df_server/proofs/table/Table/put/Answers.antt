@@ -1,7 +1,7 @@
 use Rattle.std.proofs.Common.{ap, ◌∙◌}
 use Rattle.std.specs.Prelude.{Some}
 use Rattle.df_model.specs.Keyspace.{with_held}
-use Rattle.df_server.specs.Tables.{seen}
+use Rattle.df_values.specs.Seen.{seen}
 use Rattle.df_server.proofs.TableLaws.{entry_changed}
 use Rattle.df_server.proofs.table.Table.put.Goals as goal
 

@@ -2,7 +2,7 @@ use Rattle.std.proofs.Common.{sym, ap, ◌∙◌}
 use Rattle.std.specs.Prelude.{None}
 use Rattle.std.specs.Option.{option_map}
 use Rattle.df_model.specs.Keyspace.{held, with_held}
-use Rattle.df_server.specs.Tables.{seen}
+use Rattle.df_values.specs.Seen.{seen}
 use Rattle.df_server.proofs.TableLaws.{held_entry, entry_changed}
 use Rattle.df_server.proofs.table.Table.remove.Goals as goal
 

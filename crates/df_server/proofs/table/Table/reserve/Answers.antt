@@ -1,5 +1,5 @@
 use Rattle.std.proofs.Common.{ap, ◌∙◌}
-use Rattle.df_server.specs.Tables.{seen}
+use Rattle.df_values.specs.Seen.{seen}
 use Rattle.df_server.proofs.TableLaws.{same_keyspace}
 use Rattle.df_server.proofs.table.Table.reserve.Goals as goal
 

@@ -1,0 +1,66 @@
+use Rattle.std.proofs.Common.{◌≡◌, ◌++◌, subst}
+use Rattle.std.specs.Prelude.{OnOk}
+use Rattle.df_model.specs.Meaning.Any as any
+use Rattle.df_model.specs.Meaning.Strings as strings
+use Rattle.df_model.specs.Replies.{encoding_of}
+use Rattle.df_model.specs.declared.command.ManyOp.TheVariants.{Del, Unlink, Exists, Mget, Mset, Msetnx, Rename, Renamenx}
+use Rattle.df_model.proofs.WholeLaws.{del_whole, exists_whole, mget_whole, mset_whole, msetnx_whole, rename_whole, renamenx_whole}
+use Rattle.df_server.specs.Responses.{Gives}
+use Rattle.df_server.proofs.SeveralLaws.{ran_whole, looked_whole}
+use Rattle.df_server.proofs.many.run_many.Goals as goal
+
+pub returns-in-Del-clause-ok : goal.returns-in-Del-clause-ok
+returns-in-Del-clause-ok c =
+    let K = c.args.table.now.keys in
+    let call = c.del in
+    let ws = c.in-Del.words.items in
+    ran_whole call.result c.args.op (Del c.in-Del.words) K call.new.table.keys c.args.out.now.items call.new.out.items (any.del ws K) c.in-Del.is (del_whole ws K)
+    (subst (λ l. OnOk call.result (Gives (any.del l K) call.new.table.keys c.args.out.now.items call.new.out.items)) c.as_slice.ensures call.ensures.ok)
+
+pub returns-in-Unlink-clause-ok : goal.returns-in-Unlink-clause-ok
+returns-in-Unlink-clause-ok c =
+    let K = c.args.table.now.keys in
+    let call = c.del-in-Unlink in
+    let ws = c.in-Unlink.words.items in
+    ran_whole call.result c.args.op (Unlink c.in-Unlink.words) K call.new.table.keys c.args.out.now.items call.new.out.items (any.del ws K) c.in-Unlink.is (del_whole ws K)
+    (subst (λ l. OnOk call.result (Gives (any.del l K) call.new.table.keys c.args.out.now.items call.new.out.items)) c.as_slice-in-Unlink.ensures call.ensures.ok)
+
+pub returns-in-Exists-clause-ok : goal.returns-in-Exists-clause-ok
+returns-in-Exists-clause-ok c =
+    let K = c.args.table.now.keys in
+    let ws = c.in-Exists.words.items in
+    looked_whole c.exists.result c.args.op (Exists c.in-Exists.words) K c.args.out.now.items c.exists.new.out.items (any.exists ws K) c.in-Exists.is (exists_whole ws K)
+    (subst (λ l. OnOk c.exists.result (c.exists.new.out.items ≡ c.args.out.now.items ++ encoding_of (any.exists l K))) c.as_slice-in-Exists.ensures c.exists.ensures.ok)
+
+pub returns-in-Mget-clause-ok : goal.returns-in-Mget-clause-ok
+returns-in-Mget-clause-ok c =
+    let K = c.args.table.now.keys in
+    let ws = c.in-Mget.words.items in
+    looked_whole c.mget.result c.args.op (Mget c.in-Mget.words) K c.args.out.now.items c.mget.new.out.items (strings.mget ws K) c.in-Mget.is (mget_whole ws K)
+    (subst (λ l. OnOk c.mget.result (c.mget.new.out.items ≡ c.args.out.now.items ++ encoding_of (strings.mget l K))) c.as_slice-in-Mget.ensures c.mget.ensures.ok)
+
+pub returns-in-Mset-clause-ok : goal.returns-in-Mset-clause-ok
+returns-in-Mset-clause-ok c =
+    let K = c.args.table.now.keys in
+    let ps = c.in-Mset.pairs.items in
+    ran_whole c.mset.result c.args.op (Mset c.in-Mset.pairs) K c.mset.new.table.keys c.args.out.now.items c.mset.new.out.items (strings.mset ps K) c.in-Mset.is (mset_whole ps K) c.mset.ensures.ok
+
+pub returns-in-Msetnx-clause-ok : goal.returns-in-Msetnx-clause-ok
+returns-in-Msetnx-clause-ok c =
+    let K = c.args.table.now.keys in
+    let ps = c.in-Msetnx.pairs.items in
+    ran_whole c.msetnx.result c.args.op (Msetnx c.in-Msetnx.pairs) K c.msetnx.new.table.keys c.args.out.now.items c.msetnx.new.out.items (strings.msetnx ps K) c.in-Msetnx.is (msetnx_whole ps K) c.msetnx.ensures.ok
+
+pub returns-in-Rename-clause-ok : goal.returns-in-Rename-clause-ok
+returns-in-Rename-clause-ok c =
+    let K = c.args.table.now.keys in
+    let s = c.in-Rename.source in
+    let d = c.in-Rename.destination in
+    ran_whole c.rename.result c.args.op (Rename s d) K c.rename.new.table.keys c.args.out.now.items c.rename.new.out.items (any.rename s d K) c.in-Rename.is (rename_whole s d K) c.rename.ensures.ok
+
+pub returns-in-Renamenx-clause-ok : goal.returns-in-Renamenx-clause-ok
+returns-in-Renamenx-clause-ok c =
+    let K = c.args.table.now.keys in
+    let s = c.in-Renamenx.source in
+    let d = c.in-Renamenx.destination in
+    ran_whole c.renamenx.result c.args.op (Renamenx s d) K c.renamenx.new.table.keys c.args.out.now.items c.renamenx.new.out.items (any.renamenx s d K) c.in-Renamenx.is (renamenx_whole s d K) c.renamenx.ensures.ok
