@@ -1,6 +1,7 @@
 pub mod AnswerLaws
 pub mod EndLaws
 pub mod FeedLaws
+pub mod OneLaws
 pub mod RunLaws
 pub mod ServedLaws
 pub mod SeveralLaws

@@ -5,7 +5,8 @@
 
 ghost use Rattle.std.specs.Prelude.{◌≡◌, ◌++◌, Option, Some, None, OnOk, OnErr, IfOk};
 ghost use Rattle.df_model.specs.Keyspace.{held};
-ghost use Rattle.df_model.specs.Meaning.{meaning, one};
+ghost use Rattle.df_model.specs.Access.{does, on_key};
+ghost use Rattle.df_model.specs.Meaning.{one};
 ghost use Rattle.df_model.specs.Outcomes.{outcome, settled};
 ghost use Rattle.df_model.specs.Replies.{encoding_of};
 ghost use Rattle.df_values.specs.Lent.{lent, left};
@@ -36,7 +37,7 @@ impl Table {
         op: OneOp,
         out: &mut Vec<u8>,
     ) -> Result<(), NoMemory>
-        ensures ok { OnOk result (Gives (meaning (Command.One key op) self.old.keys) self.new.keys out.old.items out.new.items) }
+        ensures ok { OnOk result (Gives (does (on_key key (one op)) self.old.keys) self.new.keys out.old.items out.new.items) }
         ensures keys { OnErr result (self.new.keys ≡ self.old.keys) }
         ensures out { OnErr result (out.new.items ≡ out.old.items) }
     {
@@ -45,9 +46,7 @@ impl Table {
         }
         match self.run_on_held(alloc, &key, op, out)? {
             Fate::Stays => {}
-            Fate::Goes => {
-                let _value = self.remove(&key);
-            }
+            Fate::Goes => self.forget(&key),
         }
         Ok(())
     }
@@ -61,7 +60,7 @@ impl Table {
         out: &mut Vec<u8>,
     ) -> Result<(), NoMemory>
         requires { held self.old.keys key ≡ None }
-        ensures ok { OnOk result (Gives (meaning (Command.One key op) self.old.keys) self.new.keys out.old.items out.new.items) }
+        ensures ok { OnOk result (Gives (does (on_key key (one op)) self.old.keys) self.new.keys out.old.items out.new.items) }
         ensures keys { OnErr result (self.new.keys ≡ self.old.keys) }
         ensures out { OnErr result (out.new.items ≡ out.old.items) }
     {

@@ -101,6 +101,14 @@ impl Table {
         self.map.remove(key)
     }
 
+    /// Removes the key and what it holds. Its room stays.
+    pub fn forget(&mut self, key: &Bin)
+        ensures keys { self.new.keys ≡ with_held self.old.keys key.now None }
+        ensures spare { self.old.spare ≤ self.new.spare }
+    {
+        let _value = self.remove(key);
+    }
+
     /// Removes all keys.
     pub fn clear(&mut self)
         ensures { self.new.keys ≡ no_keys }
