@@ -1,0 +1,6 @@
+mod PlaceLemmas
+mod ShareLemmas
+mod TotalLemmas
+mod SenderLemmas
+pub mod Crosses
+pub mod Keeps
