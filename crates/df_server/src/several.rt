@@ -149,6 +149,7 @@ pub fn rename(table: &mut Table, source: Bin, destination: Bin, out: &mut Vec<u8
     if !table.has(&source) {
         return encode_error(&ErrorText::NoSuchKey, out);
     }
+    // Onto itself a key is moved too, and stays.
     table.reserve(1)?;
     encode_simple(b"OK", out)?;
     move_value(table, source, destination);

@@ -1,5 +1,7 @@
 //! Whole runs over streams in memory.
 
+mod rows;
+
 use crate::offline;
 use df_model::{Bin, Bins, NoMemory};
 use df_outside::{MemDisk, MemSink, MemSource};
