@@ -1,6 +1,7 @@
 pub mod AnswerLaws
 pub mod EndLaws
 pub mod FeedLaws
+pub mod NamesLaws
 pub mod OneLaws
 pub mod RunLaws
 pub mod ServedLaws
