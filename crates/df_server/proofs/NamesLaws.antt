@@ -1,5 +1,5 @@
 -- Keys that were collected and sorted: the keys of the keyspace that match, in byte order.
-use Rattle.std.proofs.Common.{◌≡◌, ℕ, ◌+◌, ◌<◌, ◌≤◌, Bool, true, false, cond, List, [], ◌∷◌, length, get_or, map, refl, sym, ap, subst, ◌∙◌, arith}
+use Rattle.std.proofs.Common.{◌≡◌, ◌+◌, ◌<◌, Bool, true, false, cond, List, [], ◌∷◌, length, get_or, map, refl, sym, ap, subst, ◌∙◌, arith}
 use Rattle.std.specs.Prelude.{Option, Some, None, is_some, T, ◌&&◌, ◌||◌}
 use Rattle.std.specs.Option.{option_map}
 use Rattle.std.specs.declared.cmp.Ordering.{Ordering}
@@ -8,9 +8,9 @@ use Rattle.std.specs.List.{filter, list_any, IsDistinct, AllByRecursion}
 use Rattle.std.specs.List.Sorted.{IsPermutation, IsSorted, IsStrictlySortedBy}
 use Rattle.std.specs.Map.{lookup, keys_of}
 use Rattle.std.specs.Ordering.{nat_cmp, is_lt, is_eq, eq_by_cmp, ordering_reverse}
-use Rattle.std.specs.Cmp.{IsTotalOrder, IsEquivalence}
+use Rattle.std.specs.Cmp.{IsTotalOrder}
 use Rattle.std.specs.Cmp.Lexicographic.{slice_cmp, nat_list_cmp_total, nat_list_eq_equiv, texts_ties}
-use Rattle.std.specs.FinMap.{FinMap, find, is_sorted, entries, entries_sorted, IsAntisymmetric, contains_key-keys}
+use Rattle.std.specs.FinMap.{find, is_sorted, entries, entries_sorted, IsAntisymmetric, contains_key-keys}
 use Rattle.std.specs.FinMap as fin
 use Rattle.std.specs.FinMap.Entries.{below_all, same_entries}
 use Rattle.std.proofs.lemmas.List.{length-map, get_or-map}
@@ -21,8 +21,7 @@ use Rattle.std.proofs.lemmas.Map.Made.{is_some-lookup}
 use Rattle.std.proofs.lemmas.Map.Views.{any-filter_same}
 use Rattle.df_model.specs.Values.{Bytes, Value}
 use Rattle.df_model.specs.Words.{same}
-use Rattle.df_model.specs.Keyspace.{Keyspace, held}
-use Rattle.df_model.proofs.LocalityLaws.{same_bytes}
+use Rattle.df_model.proofs.LocalityLaws.{equal, same_bytes}
 use Rattle.df_server.specs.Tables.{keyspace_of}
 use Rattle.df_server.proofs.TableLaws.{held_entry}
 
@@ -42,11 +41,6 @@ less : (o : Ordering) → T (is_lt o) → o ≡ Less
 less Less p = refl
 less Equal p = absurd p
 less Greater p = absurd p
-
-tied_equal : (o : Ordering) → is_eq o ≡ true → o ≡ Equal
-tied_equal Less e = cc
-tied_equal Equal e = refl
-tied_equal Greater e = cc
 
 -- ---- lists that strictly rise
 
@@ -136,7 +130,7 @@ any_tied q [] = refl
 any_tied q (k ∷ ks) = ap (λ b. b || list_any (same q) ks) (texts_ties q k) ∙ ap (λ b. eq_by_cmp (slice_cmp nat_cmp) q k || b) (any_tied q ks)
 
 passes_alike : (p : Bytes → Bool) (q k : Bytes) → eq_by_cmp (slice_cmp nat_cmp) q k ≡ true → p k ≡ p q
-passes_alike p q k e = ap p (sym (same_bytes q k (tied_equal _ e)))
+passes_alike p q k e = ap p (sym (same_bytes q k (equal _ e)))
 
 any_passing : (p : Bytes → Bool) (q : Bytes) (ks : List Bytes) → list_any (eq_by_cmp (slice_cmp nat_cmp) q) (filter p ks) ≡ (p q && list_any (eq_by_cmp (slice_cmp nat_cmp) q) ks)
 any_passing p q ks = any-filter_same (eq_by_cmp (slice_cmp nat_cmp) q) p (p q) (λ k e. passes_alike p q k e) ks

@@ -6,6 +6,7 @@ ghost use Rattle.df_model.specs.Meaning.Keyless as keyless;
 ghost use Rattle.df_model.specs.Outcomes.{bulks};
 ghost use Rattle.df_model.specs.Replies.{encoding_of};
 ghost use Rattle.df_model.specs.Reads.{IsLinked};
+ghost use Rattle.df_model.specs.declared.command.Command.{Command};
 ghost use Rattle.df_resp.specs.Appended.{GrowsBy};
 ghost use Rattle.df_server.specs.Responses.{Gives};
 
