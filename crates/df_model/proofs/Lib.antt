@@ -3,6 +3,8 @@ pub mod LocalityLaws
 mod WordLaws
 pub mod CallLaws
 pub mod WholeLaws
+pub mod MoveLaws
+pub mod StoreLaws
 pub mod EncodingLaws
 mod Examples
 mod PatternExamples

@@ -55,7 +55,7 @@ held_taken_over K (k ∷ ws) new q =
     ∙ ap (λ b. cond b (held new k) (cond (among ws q) (held new q) (held K q))) ((eq_by_cmp_equiv nat_list_cmp_total).symm q k ∙ sym (texts_ties k q))
     ∙ over_tied (pointwise nat_eq k q) (among ws q) (held new k) (held new q) (held K q) (λ e. ap (held new) (same_bytes k q (equal _ (sym (texts_ties k q) ∙ e))))
 
-front_of : (rs ws : List Bytes) (q : Bytes) → among ws q ≡ true → among (rs ++ ws) q ≡ true
+pub front_of : (rs ws : List Bytes) (q : Bytes) → among ws q ≡ true → among (rs ++ ws) q ≡ true
 front_of [] ws q e = e
 front_of (r ∷ rs) ws q e = either (pointwise nat_eq r q) (among (rs ++ ws) q) (front_of rs ws q e)
   where

@@ -26,7 +26,7 @@ use Rattle.df_model.proofs.LocalityLaws.{tied, held_with, held_part, held_taken_
 abbrev pub Alike : List Bytes → Keyspace → Keyspace → Type 0
 Alike ks K L = (q : Bytes) → among ks q ≡ true → held K q ≡ held L q
 
-part_alike : (K : Keyspace) (ks : List Bytes) → Alike ks K (part K ks)
+pub part_alike : (K : Keyspace) (ks : List Bytes) → Alike ks K (part K ks)
 part_alike K ks q n = sym (held_part K ks q ∙ ap (λ b. cond b (held K q) None) n)
 
 -- they agree after the same change of a key
@@ -69,7 +69,7 @@ pub record LooksAt (ks : List Bytes) (row : Keyspace → Meaning) : Type 0 where
   pub left : (K L : Keyspace) → Alike ks K L → Alike ks (row K).1 (row L).1
   pub others : (K : Keyspace) (q : Bytes) → among ks q ≡ false → held (row K).1 q ≡ held K q
 
-by_key : (b : Bool) (v w x : Option Value) → (b ≡ true → v ≡ w) → (b ≡ false → v ≡ x) → cond b w x ≡ v
+pub by_key : (b : Bool) (v w x : Option Value) → (b ≡ true → v ≡ w) → (b ≡ false → v ≡ x) → cond b w x ≡ v
 by_key true v w x h g = sym (h refl)
 by_key false v w x h g = sym (g refl)
 
@@ -234,7 +234,7 @@ msetnx_whole ps K = changing_whole (firsts ps) (strings.msetnx ps) K (msetnx_loo
 
 -- ---- RENAME and RENAMENX
 
-second_among : (s d : Bytes) → among (s ∷ d ∷ []) d ≡ true
+pub second_among : (s d : Bytes) → among (s ∷ d ∷ []) d ≡ true
 second_among s d = later_among s d (d ∷ []) (first_among d [])
 
 moved_reply : (s d : Bytes) (reply : Reply) (v : Option Value) (K L : Keyspace) → (any.moved s d reply v K).0 ≡ (any.moved s d reply v L).0

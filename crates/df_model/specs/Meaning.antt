@@ -86,7 +86,7 @@ abbrev pub firsts : List (Bytes × Bytes) → List Bytes
 firsts = map (λ pair. pair.0)
 
 -- a result that is put under a key of its own reads the other keys only
-abbrev storing : Bytes → List Bytes → (Keyspace → Meaning) → Access
+abbrev pub storing : Bytes → List Bytes → (Keyspace → Meaning) → Access
 storing d ks row = record { reads = ks; writes = d ∷ []; row = row }
 
 abbrev pub many : ManyOp → Access

@@ -131,35 +131,35 @@ ltrim from to xs = (ok, stored (ranged from to xs))
 -- ---- rows of two keys, on the keyspace of these keys alone
 
 -- an element leaves a list at one end, and goes to a list at one end
-abbrev taken : Side → List Bytes → List Bytes
+abbrev pub taken : Side → List Bytes → List Bytes
 taken Left xs = xs
 taken Right xs = reverse xs
 
-abbrev given : Side → Bytes → List Bytes → List Bytes
+abbrev pub given : Side → Bytes → List Bytes → List Bytes
 given Left x xs = x ∷ xs
 given Right x xs = xs ++ x ∷ []
 
-abbrev elements : Option Value → Option (List Bytes)
+abbrev pub elements : Option Value → Option (List Bytes)
 elements None = Some []
 elements (Some (Value.Elements xs)) = Some xs
 elements (Some (Value.Str b)) = None
 elements (Some (Value.Hash b)) = None
 elements (Some (Value.Set b)) = None
 
-abbrev received : Bytes → Side → Bytes → Keyspace → Keyspace → Option (List Bytes) → Meaning
+abbrev pub received : Bytes → Side → Bytes → Keyspace → Keyspace → Option (List Bytes) → Meaning
 received d to x old K None = (Error errors.WrongKind, old)
 received d to x old K (Some ys) = (Bulk x, with_change d (stored (given to x ys)) K)
 
 -- d is looked at once the element has left s, so that s = d turns the list
-abbrev sent : Bytes → Bytes → Side → Side → Keyspace → Option (List Bytes) → Meaning
+abbrev pub leaves : Bytes → Bytes → Side → Side → Keyspace → List Bytes → Meaning
+leaves s d from to K [] = (NullBulk, K)
+leaves s d from to K (x ∷ rest) =
+    let left = with_change s (stored (taken from rest)) K in
+    received d to x K left (elements (held left d))
+
+abbrev pub sent : Bytes → Bytes → Side → Side → Keyspace → Option (List Bytes) → Meaning
 sent s d from to K None = (Error errors.WrongKind, K)
-sent s d from to K (Some xs) = leaves (taken from xs)
-  where
-    leaves : List Bytes → Meaning
-    leaves [] = (NullBulk, K)
-    leaves (x ∷ rest) =
-        let left = with_change s (stored (taken from rest)) K in
-        received d to x K left (elements (held left d))
+sent s d from to K (Some xs) = leaves s d from to K (taken from xs)
 
 abbrev pub lmove : Bytes → Bytes → Side → Side → Keyspace → Meaning
 lmove s d from to K = sent s d from to K (elements (held K s))

@@ -59,21 +59,21 @@ smembers s = bulks (members.items s)
 
 -- ---- rows of several keys, on the keyspace of these keys alone
 
-abbrev members_of : Option Value → Option Members
+abbrev pub members_of : Option Value → Option Members
 members_of None = Some members.empty
 members_of (Some (Value.Set s)) = Some s
 members_of (Some (Value.Str b)) = None
 members_of (Some (Value.Elements b)) = None
 members_of (Some (Value.Hash b)) = None
 
-abbrev joined : Bytes → Bytes → Bytes → Keyspace → Members → Option Members → Meaning
+abbrev pub joined : Bytes → Bytes → Bytes → Keyspace → Members → Option Members → Meaning
 joined s d m K from None = (Error errors.WrongKind, K)
 joined s d m K from (Some to) =
     if members.contains from m
     then (count 1, if same s d then K else with_change d (stored (members.insert to m)) (with_change s (stored (members.remove from m)) K))
     else (count 0, K)
 
-abbrev left : Bytes → Bytes → Bytes → Keyspace → Option Value → Meaning
+abbrev pub left : Bytes → Bytes → Bytes → Keyspace → Option Value → Meaning
 left s d m K None = (count 0, K)
 left s d m K (Some (Value.Set from)) = joined s d m K from (members_of (held K d))
 left s d m K (Some (Value.Str b)) = (Error errors.WrongKind, K)
@@ -83,15 +83,15 @@ left s d m K (Some (Value.Hash b)) = (Error errors.WrongKind, K)
 abbrev pub smove : Bytes → Bytes → Bytes → Keyspace → Meaning
 smove s d m K = left s d m K (held K s)
 
+abbrev pub with_set : Option Members → Option (List Members) → Option (List Members)
+with_set None more = None
+with_set (Some s) None = None
+with_set (Some s) (Some more) = Some (s ∷ more)
+
 -- the sets that the keys hold, or nothing where one holds another kind
-abbrev sets_of : Keyspace → List Bytes → Option (List Members)
+abbrev pub sets_of : Keyspace → List Bytes → Option (List Members)
 sets_of K [] = Some []
-sets_of K (k ∷ ks) = both (members_of (held K k)) (sets_of K ks)
-  where
-    both : Option Members → Option (List Members) → Option (List Members)
-    both None more = None
-    both (Some s) None = None
-    both (Some s) (Some more) = Some (s ∷ more)
+sets_of K (k ∷ ks) = with_set (members_of (held K k)) (sets_of K ks)
 
 abbrev pub inter : List Members → Members
 inter [] = members.empty
@@ -106,18 +106,18 @@ abbrev pub diff : List Members → Members
 diff [] = members.empty
 diff (s ∷ more) = members.difference s (union more)
 
-abbrev answered : Option Members → Reply
+abbrev pub answered : Option Members → Reply
 answered None = Error errors.WrongKind
 answered (Some s) = bulks (members.items s)
 
-abbrev over : (List Members → Members) → Option (List Members) → Option Members
+abbrev pub over : (List Members → Members) → Option (List Members) → Option Members
 over combine None = None
 over combine (Some ss) = Some (combine ss)
 
 abbrev pub combined : (List Members → Members) → List Bytes → Keyspace → Reply
 combined combine ks K = answered (over combine (sets_of K ks))
 
-abbrev kept : Bytes → Keyspace → Option Members → Meaning
+abbrev pub kept : Bytes → Keyspace → Option Members → Meaning
 kept d K None = (Error errors.WrongKind, K)
 kept d K (Some s) = (count (members.len s), with_change d (stored s) K)
 
