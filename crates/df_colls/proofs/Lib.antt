@@ -3,3 +3,4 @@ pub mod SearchLaws
 pub mod PlaceLaws
 pub mod MergeLaws
 pub mod SetLaws
+pub mod CountLaws

@@ -3,3 +3,4 @@ pub mod Places
 pub mod Runs
 pub mod Kept
 pub mod Merged
+pub mod Counting
