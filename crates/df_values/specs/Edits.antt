@@ -1,5 +1,5 @@
 -- What an edit makes of a value, when it may be applied, and what a change makes of a key.
-use Rattle.std.specs.Prelude.{◌≡◌, ◌≢◌, ℕ, ◌+◌, ◌-◌, ◌<◌, ◌≤◌, List, ◌∷◌, ◌++◌, [], reverse, take, drop, length, slice_set, Option, Some, None}
+use Rattle.std.specs.Prelude.{◌≢◌, ◌+◌, ◌-◌, ◌<◌, ◌≤◌, List, ◌++◌, reverse, take, drop, length, slice_set, Option, Some, None}
 use Rattle.std.specs.List.{insert}
 use Rattle.df_model.specs.Values.{Bytes}
 use Rattle.df_model.specs.Values as plain
@@ -14,7 +14,7 @@ use Rattle.df_values.specs.declared.edit.Edit.{Edit}
 use Rattle.df_values.specs.declared.edit.Edit.TheVariants.{Append, WriteAt, PushFront, PushBack, PopFront, PopBack, SetAt, InsertAt, RemoveEqual, Trim, PutFields, DropFields, AddMembers, DropMembers}
 use Rattle.df_values.specs.declared.change.Change.{Change}
 use Rattle.df_values.specs.declared.change.Change.TheVariants as changes
-use Rattle.df_values.specs.Seen.{seen, seen_held}
+use Rattle.df_values.specs.Seen.{seen}
 
 -- the bytes of a string; an edit of another kind leaves them (so in all four: no _ arm, each edit has its line)
 abbrev on_string : Edit → Bytes → Bytes

@@ -1,6 +1,6 @@
 //! The part of a reply that finds no room in place.
 
-ghost use Rattle.std.specs.Prelude.{◌≡◌, ◌+◌, ◌^◌, ◌<◌, ◌≤◌, ◌++◌, [], true, drop, length, vec_len, vec_capacity, IfSome, OnOk, OnErr};
+ghost use Rattle.std.specs.Prelude.{◌≡◌, ◌+◌, ◌^◌, ◌<◌, ◌≤◌, ◌++◌, [], IsTrue, ◌↔◌, drop, length, vec_len, vec_capacity, IfSome, OnOk, OnErr};
 ghost use Rattle.df_colls.specs.Runs.{IsFront};
 ghost use Rattle.df_model.specs.Replies.{encoding_of, crlf};
 ghost use Rattle.df_model.specs.declared.reply.Reply.TheVariants.{Bulk, Error as ErrorReply};
@@ -20,10 +20,10 @@ pub struct Rest {
     /// How many bytes these are together.
     kept_len: usize,
     /// What was added after them.
-    open: Vec<u8>,
+    tail: Vec<u8>,
 }
 
-/// The most bytes in `kept`: so the length of a whole reply fits its type, however long `open` is.
+/// The most bytes in `kept`: so the length of a whole reply fits its type, however long `tail` is.
 const MAX_KEPT: usize = 1 << 62;
 
 impl Model for Rest {
@@ -32,7 +32,7 @@ impl Model for Rest {
 
     ghost Value = { List ℕ };
 
-    ghost view = { λ r. joined r.kept.items ++ r.open.items };
+    ghost view = { λ r. joined r.kept.items ++ r.tail.items };
 
     ghost invariant = { λ r. (r.kept_len ≡ length (joined r.kept.items)) × (r.kept_len ≤ 2 ^ 62) };
 }
@@ -44,28 +44,28 @@ impl Rest {
         Rest {
             kept: Vec::new(alloc),
             kept_len: 0,
-            open: Vec::new(alloc),
+            tail: Vec::new(alloc),
         }
     }
 
     pub fn is_empty(&self) -> bool
-        ensures { result ≡ true → self.now ≡ [] }
+        ensures { IsTrue result ↔ (self.now ≡ []) }
     {
-        self.kept.is_empty() && self.open.is_empty()
+        self.len() == 0
     }
 
     pub fn len(&self) -> usize
         ensures len { result ≡ length self.now }
         ensures bound { result < 2 ^ 62 + 2 ^ 63 }
     {
-        self.kept_len + self.open.len()
+        self.kept_len + self.tail.len()
     }
 
     pub fn add(&mut self, bytes: &[u8]) -> Result<(), NoMemory>
         ensures ok { OnOk result (self.new ≡ self.old ++ bytes.now) }
         ensures err { OnErr result (self.new ≡ self.old) }
     {
-        self.open.extend_from_slice(bytes)?;
+        self.tail.extend_from_slice(bytes)?;
         Ok(())
     }
 
@@ -74,23 +74,23 @@ impl Rest {
         requires { length mark.now ≡ 1 }
         ensures { OnOk result (self.new ≡ self.old ++ (mark.now ++ text.now ++ crlf)) }
     {
-        self.open.reserve(text.len() + 3)?;
-        self.open.extend_from_slice(mark)?;
-        self.open.extend_from_slice(text)?;
-        self.open.extend_from_slice(b"\r\n")?;
+        self.tail.reserve(text.len() + 3)?;
+        self.tail.extend_from_slice(mark)?;
+        self.tail.extend_from_slice(text)?;
+        self.tail.extend_from_slice(b"\r\n")?;
         Ok(())
     }
 
     pub fn add_bulk(&mut self, bytes: &[u8]) -> Result<(), NoMemory>
         ensures { OnOk result (self.new ≡ self.old ++ encoding_of (Bulk bytes.now)) }
     {
-        encode_bulk(bytes, &mut self.open)
+        encode_bulk(bytes, &mut self.tail)
     }
 
     pub fn add_error(&mut self, error: &ErrorText) -> Result<(), NoMemory>
         ensures { OnOk result (self.new ≡ self.old ++ encoding_of (ErrorReply error.now)) }
     {
-        encode_error(error, &mut self.open)
+        encode_error(error, &mut self.tail)
     }
 
     /// Moves a byte string in as a buffer of its own.
@@ -98,12 +98,12 @@ impl Rest {
         ensures ok { OnOk result (self.new ≡ self.old ++ bin) }
         ensures err { OnErr result (self.new ≡ self.old) }
     {
-        let Some(kept_len) = sum(self.kept_len, self.open.len(), bin.len()) else {
+        let Some(kept_len) = sum(self.kept_len, self.tail.len(), bin.len()) else {
             return Err(NoMemory);
         };
         self.kept.reserve(2)?;
-        let open = mem::replace(&mut self.open, Vec::new(alloc));
-        self.kept.push_reserved(Bin::from_vec(open));
+        let before = mem::replace(&mut self.tail, Vec::new(alloc));
+        self.kept.push_reserved(Bin::from_vec(before));
         self.kept.push_reserved(bin);
         self.kept_len = kept_len;
         Ok(())
@@ -121,8 +121,8 @@ impl Rest {
             }
             at -= bin.len();
         }
-        if at < self.open.len() {
-            return &self.open.as_slice()[at..];
+        if at < self.tail.len() {
+            return &self.tail.as_slice()[at..];
         }
         &[]
     }
@@ -135,7 +135,7 @@ impl Rest {
         'kept: for bin in self.kept.as_slice() {
             append(bin.as_slice(), to);
         }
-        append(self.open.as_slice(), to);
+        append(self.tail.as_slice(), to);
     }
 }
 

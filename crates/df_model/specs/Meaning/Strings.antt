@@ -67,7 +67,7 @@ getdel old = (bulk_or_null old, Change.Delete)
 -- ---- parts of a string
 
 -- a string that would be too long is refused
-abbrev lengthened : Bytes → Outcome
+abbrev pub lengthened : Bytes → Outcome
 lengthened bytes = if nat_lt MAX_STRING (length bytes) then refused errors.TooLong else (count (length bytes), stored bytes)
 
 abbrev pub append : Bytes → Option Bytes → Outcome
@@ -92,10 +92,10 @@ setrange at (b ∷ bytes) old =
 
 -- ---- counters
 
-abbrev summed : ℤ → Outcome
+abbrev pub summed : ℤ → Outcome
 summed n = if fits n then (Int n, stored (signed_decimal n)) else refused errors.Overflow
 
-abbrev raised : ℤ → Option ℤ → Outcome
+abbrev pub raised : ℤ → Option ℤ → Outcome
 raised by None = refused errors.NotInteger
 raised by (Some n) = summed (n +ℤ by)
 
@@ -103,7 +103,7 @@ abbrev pub incrby : ℤ → Option Bytes → Outcome
 incrby by old = raised by (counter old)
 
 -- the least number has no opposite: to take it off is refused, whatever the key counts
-abbrev lowered : ℤ → Option ℤ → Outcome
+abbrev pub lowered : ℤ → Option ℤ → Outcome
 lowered by None = refused errors.NotInteger
 lowered by (Some n) = if fits (neg_ℤ by) then summed (n +ℤ neg_ℤ by) else refused errors.Overflow
 

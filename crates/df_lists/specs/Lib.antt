@@ -1,0 +1,4 @@
+pub mod Serves
+pub mod Ends
+pub mod Resized
+pub mod Places

@@ -1,0 +1,136 @@
+-- Sets combined one after another are combined at once.
+use Rattle.std.proofs.Common.{◌≡◌, Bool, true, false, ◌&&◌, ◌||◌, cond, ◌-◌, ◌<◌, ◌≤◌, List, [], ◌∷◌, length, take, drop, get_or, refl, sym, ap, ◌∙◌, arith}
+use Rattle.std.proofs.lemmas.List.{take_all}
+use Rattle.std.specs.Borrow.{Bor}
+use Rattle.std.specs.Prelude.{Option, Some, None, is_some, not}
+use Rattle.std.specs.List.{list_any}
+use Rattle.std.specs.Ordering.{eq_by_cmp}
+use Rattle.std.specs.Cmp.Lexicographic.{nat_list_cmp_total}
+use Rattle.std.specs.FinMap as finmap
+use Rattle.df_model.specs.Values.{Bytes, Members}
+use Rattle.df_model.specs.Members.{empty, contains, insert, items, with_all, union, intersection, difference}
+use Rattle.df_model.specs.Meaning.Sets as sets
+use Rattle.df_colls.specs.Roomy.{order, RoomyMembers}
+use Rattle.df_colls.proofs.OrderLaws.{same_key}
+use Rattle.df_sets.specs.Combined.{combined, folded, lent_members}
+use Rattle.df_sets.specs.declared.combination.Combine.{Combine}
+use Rattle.df_sets.specs.declared.combination.Combine.TheVariants.{Inter, Union, Diff}
+
+-- ---- members of what is made of two sets
+
+-- two sets with the same members are one
+pub same_members : (s t : Members) → ((q : Bytes) → contains s q ≡ contains t q) → s ≡ t
+same_members s t h = finmap.same_map nat_list_cmp_total same_key s t (λ q. told (finmap.get s q) (finmap.get t q) (h q))
+  where
+    told : (a b : Option (Unit {0})) → is_some a ≡ is_some b → a ≡ b
+    told None None e = refl
+    told None (Some b) e = cc
+    told (Some a) None e = cc
+    told (Some a) (Some b) e = refl
+
+kept : (s : Members) (p : Bytes → Bool) (q : Bytes) → contains (finmap.retain_keys s p) q ≡ (contains s q && p q)
+kept s p q = ap is_some (finmap.get-retain_keys s p q (λ x e. ap p (sym (same_key q x e)))) ∙ both (p q) (finmap.get s q)
+  where
+    both : (b : Bool) (o : Option (Unit {0})) → is_some (cond b o None) ≡ (is_some o && b)
+    both true (Some u) = refl
+    both true None = refl
+    both false (Some u) = refl
+    both false None = refl
+
+pub in_both : (s t : Members) (q : Bytes) → contains (intersection s t) q ≡ (contains s q && contains t q)
+in_both s t q = kept s (contains t) q
+
+pub in_first : (s t : Members) (q : Bytes) → contains (difference s t) q ≡ (contains s q && not (contains t q))
+in_first s t q = kept s (λ m. not (contains t m)) q
+
+put_has : (s : Members) (m q : Bytes) → contains (insert s m) q ≡ (eq_by_cmp order q m || contains s q)
+put_has s m q = ap is_some (finmap.get-insert nat_list_cmp_total s m tt q) ∙ some_or (eq_by_cmp order q m) (finmap.get s q)
+  where
+    some_or : (b : Bool) (o : Option (Unit {0})) → is_some (cond b (Some tt) o) ≡ (b || is_some o)
+    some_or true o = refl
+    some_or false o = refl
+
+in_any : (ms : List Bytes) (s : Members) (q : Bytes) → contains (with_all ms s) q ≡ (contains s q || list_any (eq_by_cmp order q) ms)
+in_any [] s q = right (contains s q)
+  where
+    right : (a : Bool) → a ≡ (a || false)
+    right true = refl
+    right false = refl
+in_any (m ∷ ms) s q = in_any ms (insert s m) q ∙ ap (λ b. b || list_any (eq_by_cmp order q) ms) (put_has s m q) ∙ swap (eq_by_cmp order q m) (contains s q) (list_any (eq_by_cmp order q) ms)
+  where
+    swap : (a b c : Bool) → ((a || b) || c) ≡ (b || (a || c))
+    swap true true c = refl
+    swap true false c = refl
+    swap false b c = refl
+
+pub in_either : (s t : Members) (q : Bytes) → contains (union s t) q ≡ (contains s q || contains t q)
+in_either s t q = in_any (items t) s q ∙ ap (λ b. contains s q || b) (sym (finmap.contains_key-keys t q))
+
+none : (q : Bytes) → contains empty q ≡ false
+none q = ap is_some (finmap.get-empty order q)
+
+-- ---- one after another
+
+and_again : (a b c : Bool) → ((a && b) && c) ≡ (a && (b && c))
+and_again true b c = refl
+and_again false b c = refl
+
+or_again : (a b c : Bool) → ((a || b) || c) ≡ (a || (b || c))
+or_again true b c = refl
+or_again false b c = refl
+
+without_either : (a b c : Bool) → ((a && not b) && not c) ≡ (a && not (b || c))
+without_either true true c = refl
+without_either true false c = refl
+without_either false b c = refl
+
+inter_again : (s t u : Members) → intersection (intersection s t) u ≡ intersection s (intersection t u)
+inter_again s t u = same_members _ _ (λ q.
+    in_both (intersection s t) u q ∙ ap (λ b. b && contains u q) (in_both s t q) ∙ and_again (contains s q) (contains t q) (contains u q)
+    ∙ sym (in_both s (intersection t u) q ∙ ap (λ b. contains s q && b) (in_both t u q)))
+
+union_again : (s t u : Members) → union (union s t) u ≡ union s (union t u)
+union_again s t u = same_members _ _ (λ q.
+    in_either (union s t) u q ∙ ap (λ b. b || contains u q) (in_either s t q) ∙ or_again (contains s q) (contains t q) (contains u q)
+    ∙ sym (in_either s (union t u) q ∙ ap (λ b. contains s q || b) (in_either t u q)))
+
+diff_again : (s t u : Members) → difference (difference s t) u ≡ difference s (union t u)
+diff_again s t u = same_members _ _ (λ q.
+    in_first (difference s t) u q ∙ ap (λ b. b && not (contains u q)) (in_first s t q) ∙ without_either (contains s q) (contains t q) (contains u q)
+    ∙ sym (in_first s (union t u) q ∙ ap (λ b. contains s q && not b) (in_either t u q)))
+
+union_none : (s : Members) → s ≡ union s empty
+union_none s = same_members _ _ (λ q. sym (in_either s empty q ∙ ap (λ b. contains s q || b) (none q) ∙ same (contains s q)))
+  where
+    same : (a : Bool) → (a || false) ≡ a
+    same true = refl
+    same false = refl
+
+diff_none : (s : Members) → s ≡ difference s empty
+diff_none s = same_members _ _ (λ q. sym (in_first s empty q ∙ ap (λ b. contains s q && not b) (none q) ∙ same (contains s q)))
+  where
+    same : (a : Bool) → (a && true) ≡ a
+    same true = refl
+    same false = refl
+
+inter_more : (s t : Members) (more : List Members) → sets.inter (intersection s t ∷ more) ≡ intersection s (sets.inter (t ∷ more))
+inter_more s t [] = refl
+inter_more s t (u ∷ more) = inter_again s t (sets.inter (u ∷ more))
+
+-- what is folded from the first of some sets over the others is their combination
+pub folded_is : (op : Combine) (s : Members) (more : List Members) → folded op s more ≡ combined op (s ∷ more)
+folded_is Inter s [] = refl
+folded_is Inter s (t ∷ more) = folded_is Inter (intersection s t) more ∙ inter_more s t more
+folded_is Union s [] = union_none s
+folded_is Union s (t ∷ more) = folded_is Union (union s t) more ∙ union_again s t (sets.union more)
+folded_is Diff s [] = diff_none s
+folded_is Diff s (t ∷ more) = folded_is Diff (difference s t) more ∙ diff_again s t (sets.union more)
+
+-- some lent sets, the first of them copied and the others folded
+pub from_first : (op : Combine) (lent : List (Bor RoomyMembers)) (first : Bor RoomyMembers) (so_far : Members) → 0 < length lent → first ≡ get_or lent 0 first → so_far ≡ first.now.members → folded op so_far (lent_members (take (length lent - 1) (drop 1 lent))) ≡ combined op (lent_members lent)
+from_first op [] first so_far h is copied = absurd (omega arith)
+from_first op (s ∷ more) first so_far h is copied =
+    let rest : take (length (s ∷ more) - 1) more ≡ more = take_all (length (s ∷ more) - 1) more (omega arith) in
+    ap (λ sets. folded op so_far (lent_members sets)) rest
+    ∙ ap (λ m. folded op m (lent_members more)) (copied ∙ ap (λ lent. lent.now.members) is)
+    ∙ folded_is op s.now.members (lent_members more)

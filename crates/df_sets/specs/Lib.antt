@@ -1,0 +1,4 @@
+pub mod Serves
+pub mod Questions
+pub mod Combined
+pub mod Counted
