@@ -77,8 +77,8 @@ lmove_looks : (s d : Bytes) (from to : Side) → LooksAt (s ∷ d ∷ []) (lists
 lmove_looks s d from to =
     looks_at (s ∷ d ∷ []) (lists.lmove s d from to)
     (λ K L a.
-      subst (λ v. Agree (s ∷ d ∷ []) (lists.lmove s d from to K) (lists.sent s d from to L (lists.elements v))) (a s (first_among s (d ∷ [])))
-      (sent_agree s d from to K L (lists.elements (held K s)) a))
+    subst (λ v. Agree (s ∷ d ∷ []) (lists.lmove s d from to K) (lists.sent s d from to L (lists.elements v))) (a s (first_among s (d ∷ [])))
+    (sent_agree s d from to K L (lists.elements (held K s)) a))
     (λ K q n. sent_others s d from to K (lists.elements (held K s)) q n)
 
 pub lmove_whole : (s d : Bytes) (from to : Side) (K : Keyspace) → does (changing (s ∷ d ∷ []) (lists.lmove s d from to)) K ≡ lists.lmove s d from to K
@@ -112,9 +112,11 @@ joined_agree s d m K L from (Some to) a =
     let ks : List Bytes = s ∷ d ∷ [] in
     let less : Change = sets.stored (members.remove from m) in
     let more : Change = sets.stored (members.insert to m) in
-    either_agree ks (members.contains from m) _ _ _ _
-    (refl, either_keys ks (same s d) K (with_change d more (with_change s less K)) L (with_change d more (with_change s less L)) a
-      (alike_change ks (with_change s less K) (with_change s less L) d more (second_among s d) (alike_change ks K L s less (first_among s (d ∷ [])) a)))
+    either_agree ks (members.contains from m) _ _ _ _ (
+      refl,
+      either_keys ks (same s d) K (with_change d more (with_change s less K)) L (with_change d more (with_change s less L)) a
+          (alike_change ks (with_change s less K) (with_change s less L) d more (second_among s d) (alike_change ks K L s less (first_among s (d ∷ [])) a)),
+    )
     (refl, a)
 
 left_agree : (s d m : Bytes) (K L : Keyspace) (v : Option Value) → Alike (s ∷ d ∷ []) K L → Agree (s ∷ d ∷ []) (sets.left s d m K v) (sets.left s d m L v)
@@ -133,7 +135,7 @@ joined_others s d m K from (Some to) q n =
     let more : Change = sets.stored (members.insert to m) in
     either_others (members.contains from m) _ _ q (held K q)
     (either_held (same s d) K (with_change d more (with_change s less K)) q (held K q) refl
-      (others_change (with_change s less K) d q more (apart s d q n).1 ∙ others_change K s q less (apart s d q n).0))
+    (others_change (with_change s less K) d q more (apart s d q n).1 ∙ others_change K s q less (apart s d q n).0))
     refl
 
 left_others : (s d m : Bytes) (K : Keyspace) (v : Option Value) (q : Bytes) → among (s ∷ d ∷ []) q ≡ false → held (sets.left s d m K v).1 q ≡ held K q

@@ -20,8 +20,8 @@ storing_whole d ks row K looks others =
     let alike : Alike (ks ++ d ∷ []) K L = part_alike K (ks ++ d ∷ []) in
     let reply : (row L).0 ≡ (row K).0 = sym (looks.reply K L alike) in
     let left : taken_over K (d ∷ []) (row L).1 ≡ (row K).1 = same_map_by _ _ (λ q.
-        held_taken_over K (d ∷ []) (row L).1 q
-        ∙ by_key (among (d ∷ []) q) (held (row K).1 q) (held (row L).1 q) (held K q) (λ n. looks.left K L alike q (front_of ks (d ∷ []) q n)) (others q)) in
+    held_taken_over K (d ∷ []) (row L).1 q
+    ∙ by_key (among (d ∷ []) q) (held (row K).1 q) (held (row L).1 q) (held K q) (λ n. looks.left K L alike q (front_of ks (d ∷ []) q n)) (others q)) in
     ap (λ r. (r, taken_over K (d ∷ []) (row L).1)) reply ∙ ap (λ m. ((row K).0, m)) left
 
 -- ---- SINTER, SUNION and SDIFF
@@ -64,13 +64,14 @@ module _ (combine : List Members → Members) (d : Bytes) (ks : List Bytes) wher
   store_agree : (K L : Keyspace) → Alike (ks ++ d ∷ []) K L → Agree (ks ++ d ∷ []) (sets.store combine d ks K) (sets.store combine d ks L)
   store_agree K L a =
       let same_sets : sets.sets_of L ks ≡ sets.sets_of K ks = sym (sets_alike ks K L (λ q n. a q (back_of ks d q n))) in
-      let agree : Agree (ks ++ d ∷ []) (sets.store combine d ks K) (sets.kept d L (sets.over combine (sets.sets_of K ks))) = kept_agree (ks ++ d ∷ []) d K L (sets.over combine (sets.sets_of K ks)) named a in
-      (agree.0 ∙ ap (λ ss. (sets.kept d L (sets.over combine ss)).0) (sym same_sets),
-      λ q n. agree.1 q n ∙ ap (λ ss. held (sets.kept d L (sets.over combine ss)).1 q) (sym same_sets))
+      let agree : Agree (ks ++ d ∷ []) (sets.store combine d ks K) (sets.kept d L (sets.over combine (sets.sets_of K ks))) = kept_agree (ks ++ d ∷ []) d K L (sets.over combine (sets.sets_of K ks)) named a in (
+        agree.0 ∙ ap (λ ss. (sets.kept d L (sets.over combine ss)).0) (sym same_sets),
+        λ q n. agree.1 q n ∙ ap (λ ss. held (sets.kept d L (sets.over combine ss)).1 q) (sym same_sets),
+      )
 
   pub store_whole : (K : Keyspace) → does (storing d ks (sets.store combine d ks)) K ≡ sets.store combine d ks K
   store_whole K =
       storing_whole d ks (sets.store combine d ks) K
       (looks_at (ks ++ d ∷ []) (sets.store combine d ks) store_agree
-        (λ M q n. kept_others d M (sets.over combine (sets.sets_of M ks)) q (apart_last ks d q n)))
+      (λ M q n. kept_others d M (sets.over combine (sets.sets_of M ks)) q (apart_last ks d q n)))
       (λ q n. kept_others d K (sets.over combine (sets.sets_of K ks)) q n)

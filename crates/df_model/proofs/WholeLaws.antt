@@ -79,8 +79,8 @@ changing_whole ks row K looks =
     let alike : Alike ks K L = part_alike K ks in
     let reply : (row L).0 ≡ (row K).0 = sym (looks.reply K L alike) in
     let left : taken_over K ks (row L).1 ≡ (row K).1 = same_map_by _ _ (λ q.
-        held_taken_over K ks (row L).1 q
-        ∙ by_key (among ks q) (held (row K).1 q) (held (row L).1 q) (held K q) (looks.left K L alike q) (looks.others K q)) in
+    held_taken_over K ks (row L).1 q
+    ∙ by_key (among ks q) (held (row K).1 q) (held (row L).1 q) (held K q) (looks.left K L alike q) (looks.others K q)) in
     ap (λ r. (r, taken_over K ks (row L).1)) reply ∙ ap (λ m. ((row K).0, m)) left
 
 pub looking_whole : (ks : List Bytes) (row : Keyspace → Reply) (K : Keyspace) → ((L : Keyspace) → Alike ks K L → row K ≡ row L) → does (looking ks row) K ≡ (row K, K)
@@ -130,10 +130,12 @@ one_less K k = by (held K k) refl
     by : (v : Option Value) → held K k ≡ v → cond (is_some v) 1 0 + fin.len (fin.remove K k) ≡ fin.len K
     by None e = omega (arith, len-remove nat_list_cmp_total K k ∙ ap (λ o. cond (is_some o) (fin.len K - 1) (fin.len K)) e)
     by (Some v) e =
-        omega (arith,
-        ap fin.len (sym (taken_and_put K k v e))
-        ∙ len-insert nat_list_cmp_total (fin.remove K k) k v
-        ∙ ap (λ o. cond (is_some o) (fin.len (fin.remove K k)) (fin.len (fin.remove K k) + 1)) (held_same K k None))
+        omega (
+          arith,
+          ap fin.len (sym (taken_and_put K k v e))
+              ∙ len-insert nat_list_cmp_total (fin.remove K k) k v
+              ∙ ap (λ o. cond (is_some o) (fin.len (fin.remove K k)) (fin.len (fin.remove K k) + 1)) (held_same K k None),
+        )
 
 pub len_without : (ws : List Bytes) (K : Keyspace) → gone ws K + fin.len (any.without_keys ws K) ≡ fin.len K
 len_without [] K = omega arith

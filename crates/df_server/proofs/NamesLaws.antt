@@ -87,7 +87,7 @@ module _ {K : Type 0} (R : K → K → Ordering) where
     same_rising same ks js up rises is =
         sym (keys_alone ks)
         ∙ ap (map (λ e. e.0)) (same_entries R o same (alone ks) (alone js) (sorted_alone ks up) (sorted_alone js rises) (λ q.
-            find_alone q ks ∙ ap (λ b. cond b (Some tt) None) (is q) ∙ sym (find_alone q js)))
+        find_alone q ks ∙ ap (λ b. cond b (Some tt) None) (is q) ∙ sym (find_alone q js)))
         ∙ keys_alone js
 
     -- keys that are sorted and differ strictly rise
@@ -96,15 +96,15 @@ module _ {K : Type 0} (R : K → K → Ordering) where
     sorted_rise key E ties (x ∷ xs) sorted distinct =
         let ys = x ∷ xs in
         sorted_from_all_adjacent o (map key ys) (key x) (λ k below.
-            let here : k + 1 < length ys = omega (arith, below, length-map ys key) in
-            let a = get_or (map key ys) k (key x) in
-            let b = get_or (map key ys) (k + 1) (key x) in
-            let before : is_lt (R b a) ≡ false =
-            ap (λ y. is_lt (R y a)) (get_or-map key ys (k + 1) x (key x) here)
-            ∙ ap (λ y. is_lt (R (key (get_or ys (k + 1) x)) y)) (get_or-map key ys k x (key x) (omega arith))
-            ∙ sorted k x (omega arith) here in
-            not_after (R a b) (R b a) (o.antisymm b a) before
-            (sym (ties a b) ∙ apart_from_distinct E (map key ys) k (k + 1) (key x) distinct (omega arith) below))
+        let here : k + 1 < length ys = omega (arith, below, length-map ys key) in
+        let a = get_or (map key ys) k (key x) in
+        let b = get_or (map key ys) (k + 1) (key x) in
+        let before : is_lt (R b a) ≡ false =
+        ap (λ y. is_lt (R y a)) (get_or-map key ys (k + 1) x (key x) here)
+        ∙ ap (λ y. is_lt (R (key (get_or ys (k + 1) x)) y)) (get_or-map key ys k x (key x) (omega arith))
+        ∙ sorted k x (omega arith) here in
+        not_after (R a b) (R b a) (o.antisymm b a) before
+        (sym (ties a b) ∙ apart_from_distinct E (map key ys) k (k + 1) (key x) distinct (omega arith) below))
 
 -- ---- the keys that match
 
@@ -159,8 +159,8 @@ module _ {V : Type 0} (seen : V → Value) where
       (sorted_rise (slice_cmp nat_cmp) nat_list_cmp_total key same texts_ties names sorted apart)
       (IsStrictlySortedBy-filter (slice_cmp nat_cmp) p (fin.keys K) (keys_rise (slice_cmp nat_cmp) (entries K) (entries_sorted K)))
       (λ q.
-        sym (list_any-IsPermutation (eq_by_cmp (slice_cmp nat_cmp) q) (map key collected) (map key names) moved_keys)
-        ∙ ap (list_any (eq_by_cmp (slice_cmp nat_cmp) q)) is
-        ∙ any_passing p q (keys_of es)
-        ∙ ap (λ b. p q && b) (has_keys es q)
-        ∙ sym (any_passing p q (fin.keys K)))
+      sym (list_any-IsPermutation (eq_by_cmp (slice_cmp nat_cmp) q) (map key collected) (map key names) moved_keys)
+      ∙ ap (list_any (eq_by_cmp (slice_cmp nat_cmp) q)) is
+      ∙ any_passing p q (keys_of es)
+      ∙ ap (λ b. p q && b) (has_keys es q)
+      ∙ sym (any_passing p q (fin.keys K)))

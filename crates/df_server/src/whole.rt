@@ -40,12 +40,7 @@ pub fn run_whole(
 }
 
 /// KEYS.
-fn keys_like(
-    alloc: Global,
-    table: &Table,
-    pattern: &Bin,
-    out: &mut Vec<u8>,
-) -> Result<(), NoMemory>
+fn keys_like(alloc: Global, table: &Table, pattern: &Bin, out: &mut Vec<u8>) -> Result<(), NoMemory>
     ensures ok { OnOk result (out.new.items ≡ out.old.items ++ encoding_of (keyless.keys pattern.now table.now.keys).0) }
     ensures err { OnErr result (out.new.items ≡ out.old.items) }
 {
