@@ -19,10 +19,10 @@ and_true : (a : Bool) → a ≡ (a && true)
 and_true true = refl
 and_true false = refl
 
-none_met : (q : Bytes) → map.contains_key (map.empty {X = Unit {0}} {R = slice_cmp nat_cmp}) q ≡ false
+pub none_met : (q : Bytes) → map.contains_key (map.empty {X = Unit {0}} {R = slice_cmp nat_cmp}) q ≡ false
 none_met q = ap is_some (map.get-empty (slice_cmp nat_cmp) q)
 
-put_has : {Y : Type 0} (m : map.FinMap (slice_cmp nat_cmp) Y) (k : Bytes) (v : Y) (q : Bytes) → map.contains_key (map.insert m k v) q ≡ (eq_by_cmp (slice_cmp nat_cmp) q k || map.contains_key m q)
+pub put_has : {Y : Type 0} (m : map.FinMap (slice_cmp nat_cmp) Y) (k : Bytes) (v : Y) (q : Bytes) → map.contains_key (map.insert m k v) q ≡ (eq_by_cmp (slice_cmp nat_cmp) q k || map.contains_key m q)
 put_has m k v q = ap is_some (map.get-insert nat_list_cmp_total m k v q) ∙ some_or v (eq_by_cmp (slice_cmp nat_cmp) q k) (map.get m q)
   where
     some_or : {Z : Type 0} (z : Z) (b : Bool) (o : Option Z) → is_some (cond b (Some z) o) ≡ (b || is_some o)
@@ -30,7 +30,7 @@ put_has m k v q = ap is_some (map.get-insert nat_list_cmp_total m k v q) ∙ som
     some_or z false o = refl
 
 -- a map that has a key has an entry
-some_entry : {Y : Type 0} (m : map.FinMap (slice_cmp nat_cmp) Y) (k : Bytes) → map.contains_key m k ≡ true → 0 < map.len m
+pub some_entry : {Y : Type 0} (m : map.FinMap (slice_cmp nat_cmp) Y) (k : Bytes) → map.contains_key m k ≡ true → 0 < map.len m
 some_entry m k has = elim (cases_lt 0 (map.len m)) [
   | inl lt ↦ lt
   | inr le ↦ absurd (false≢true (sym (ap (λ x. map.contains_key x k) (map.empty_of_len m (omega (arith, le))) ∙ ap is_some (map.get-empty (slice_cmp nat_cmp) k)) ∙ has))

@@ -1,6 +1,6 @@
 -- A key that holds no list refuses each command on lists.
 use Rattle.std.proofs.Common.{◌≡◌, List, Result, Ok, Err, refl, ap}
-use Rattle.std.specs.Prelude.{Option, Some, IfOk}
+use Rattle.std.specs.Prelude.{Some, IfOk}
 use Rattle.df_model.specs.Values.{Bytes}
 use Rattle.df_model.specs.Values as plain
 use Rattle.df_model.specs.Spared.{Spared}
@@ -66,5 +66,5 @@ pub refuses : (op : OneOp) (value : Value) (result : Result Prepared NoMemory) �
     → IfOk result (λ prepared. Gives (outcome (one op) (Some (seen value))) (Some value) prepared)
 refuses op value (Ok prepared) serves other is =
     keeps (outcome (one op) (Some (seen value))) (Error WrongKind) (Some value) prepared (wrong_kind op (seen value) serves (no_list value other))
-      (ap (λ p. p.reply) is) (ap (λ p. p.change) is)
+    (ap (λ p. p.reply) is) (ap (λ p. p.change) is)
 refuses op value (Err e) serves other is = tt

@@ -1,7 +1,7 @@
 -- An element in the place of another, or beside another.
-use Rattle.std.proofs.Common.{◌≡◌, ℕ, zero, suc, ◌+◌, ◌<◌, ◌≤◌, Bool, true, false, List, [], ◌∷◌, ◌++◌, length, drop, refl, sym, ap, ◌∙◌, inl, inr, arith}
+use Rattle.std.proofs.Common.{◌≡◌, ℕ, zero, suc, ◌+◌, ◌<◌, ◌≤◌, Bool, true, false, List, [], ◌∷◌, length, drop, refl, sym, ap, ◌∙◌, inl, inr, arith}
 use Rattle.std.specs.Prelude.{Option, Some, None, slice_get, slice_set, ◌⊎◌}
-use Rattle.std.specs.Prelude.{negsuc, take, ◌-◌, min}
+use Rattle.std.specs.Prelude.{negsuc, take}
 use Rattle.std.specs.List.{insert}
 use Rattle.std.proofs.lemmas.List.{length-drop, length-take}
 use Rattle.std.proofs.Common.{length-append}
@@ -71,8 +71,8 @@ inserted_some beside p v (x ∷ xs) i is =
     elim (either (same x p)) [
       | inl met ↦ at_first beside p v x xs i met (let here : Some 0 ≡ Some i = rw met at is in cc)
       | inr other ↦
-        let there = further_some (place_of p xs) i (rw other at is) in
-        at_later beside p v x xs i there.0 other (sym there.2) (inserted_some beside p v xs there.0 there.1)
+          let there = further_some (place_of p xs) i (rw other at is) in
+          at_later beside p v x xs i there.0 other (sym there.2) (inserted_some beside p v xs there.0 there.1)
     ]
 
 inserted_none : (beside : Beside) (p v : Bytes) (xs : List Bytes) → place_of p xs ≡ None → inserted beside p v xs ≡ None
@@ -105,12 +105,12 @@ pub insert_gives : (beside : Beside) (p v : Bytes) (xs : List Bytes) (list : Spa
     → Gives (linsert beside p v xs) (Some (values.List list)) prepared
 insert_gives beside p v xs list i k after prepared same_list found within room more place replies makes =
     gives (linsert beside p v xs) (count (length ys)) (stored ys) (Some (values.List list)) prepared (changes.Edit (InsertAt (beside_place beside i) v))
-      (insert_row beside p v xs i found)
-      (replies ∙ ap (λ n. encoding_of (count n)) (more ∙ sym long))
-      (makes ∙ ap (λ at. changes.Edit (InsertAt at v)) place)
-      (suits_edit list ys (InsertAt (beside_place beside i) v) (omega (arith, long)) (λ e. absurd (omega (arith, long, ap length e, ap length same_list)))
-        (ap (λ zs. plain.Value.Elements (insert zs (beside_place beside i) v)) same_list)
-        (omega (arith, near, ap length same_list), room))
+    (insert_row beside p v xs i found)
+    (replies ∙ ap (λ n. encoding_of (count n)) (more ∙ sym long))
+    (makes ∙ ap (λ at. changes.Edit (InsertAt at v)) place)
+    (suits_edit list ys (InsertAt (beside_place beside i) v) (omega (arith, long)) (λ e. absurd (omega (arith, long, ap length e, ap length same_list)))
+    (ap (λ zs. plain.Value.Elements (insert zs (beside_place beside i) v)) same_list)
+    (omega (arith, near, ap length same_list), room))
   where
     ys : List Bytes
     ys = insert xs (beside_place beside i) v
@@ -138,12 +138,12 @@ pub set_keeps : (list : Spared Bytes) (i : ℕ) (v : Bytes) (prepared : Prepared
     → Gives (ok, stored (slice_set list.items i v)) (Some (values.List list)) prepared
 set_keeps list i v prepared within at replies makes =
     gives (ok, stored (slice_set list.items i v)) ok (stored (slice_set list.items i v)) (Some (values.List list)) prepared changes.Keep refl replies makes
-      (suits_keep list (slice_set list.items i v) (omega (arith, length-set list.items i v)) (set_same list.items i v at))
+    (suits_keep list (slice_set list.items i v) (omega (arith, length-set list.items i v)) (set_same list.items i v at))
 
 pub set_edits : (list : Spared Bytes) (i : ℕ) (v : Bytes) (prepared : Prepared) → i < length list.items → (slice_get list.items i ≡ Some v → ⊥)
     → prepared.reply ≡ encoding_of ok → prepared.change ≡ changes.Edit (SetAt i v)
     → Gives (ok, stored (slice_set list.items i v)) (Some (values.List list)) prepared
 set_edits list i v prepared within other replies makes =
     gives (ok, stored (slice_set list.items i v)) ok (stored (slice_set list.items i v)) (Some (values.List list)) prepared (changes.Edit (SetAt i v)) refl replies makes
-      (suits_edit list (slice_set list.items i v) (SetAt i v) (omega (arith, length-set list.items i v))
-        (λ e. other (sym (ap (λ ys. slice_get ys i) e) ∙ get_set list.items i v within)) refl within)
+    (suits_edit list (slice_set list.items i v) (SetAt i v) (omega (arith, length-set list.items i v))
+    (λ e. other (sym (ap (λ ys. slice_get ys i) e) ∙ get_set list.items i v within)) refl within)

@@ -1,6 +1,6 @@
 -- The pops from either end: RPOP read at the end of the list, where its row is that of LPOP on the reverse.
-use Rattle.std.proofs.Common.{◌≡◌, ℕ, zero, suc, ◌-◌, ◌<◌, ◌≤◌, List, [], ◌∷◌, ◌++◌, length, reverse, take, drop, min, refl, sym, ap, ◌∙◌, subst, arith}
-use Rattle.std.specs.Prelude.{ℤ, pos, negsuc, nat_abs, Option, Some, None, slice_get}
+use Rattle.std.proofs.Common.{◌≡◌, ℕ, zero, suc, ◌-◌, ◌<◌, List, [], ◌∷◌, ◌++◌, length, reverse, take, drop, min, refl, sym, ap, ◌∙◌, arith}
+use Rattle.std.specs.Prelude.{pos, Some, None, slice_get}
 use Rattle.std.proofs.lemmas.List.{length-reverse, length-drop, length-take, reverse-append, reverse-reverse, take-append-drop, take_at}
 use Rattle.df_model.specs.Values.{Bytes}
 use Rattle.df_model.specs.Values as plain
@@ -10,7 +10,7 @@ use Rattle.df_model.specs.Meaning.Lists.{stored, rpop}
 use Rattle.df_model.specs.Replies.{encoding_of}
 use Rattle.df_model.specs.declared.command.Side.{Side}
 use Rattle.df_model.specs.declared.command.Side.TheVariants.{Left, Right}
-use Rattle.df_model.specs.declared.reply.Reply.TheVariants.{Bulk, NullBulk, NullArray}
+use Rattle.df_model.specs.declared.reply.Reply.TheVariants.{Bulk}
 use Rattle.df_values.specs.declared.value.Value.TheVariants as values
 use Rattle.df_values.specs.declared.edit.Edit.{Edit}
 use Rattle.df_values.specs.declared.change.Prepared.{Prepared}
@@ -108,11 +108,11 @@ pub one_gives : (side : Side) (list : Spared Bytes) (rest : List Bytes) (x : Byt
     → Gives (pop side None list.items) (Some (values.List list)) prepared
 one_gives side list rest x before after edit prepared is was left pops replies makes =
     resized_gives (pop side None list.items) (Bulk x) list (popped side 1 list.items) (pop_edit side 1) before after prepared
-      (one_row side list.items rest x is)
-      replies
-      (makes ∙ ap (λ e. resized e before after) pops)
-      was (omega (arith, length-popped side 1 list.items, was, left)) (edit_pops side 1 list.items) (pop_fits side 1 list)
-      (λ same. absurd (omega (arith, same, length-popped side 1 list.items, ap length is, length-from_end side list.items)))
+    (one_row side list.items rest x is)
+    replies
+    (makes ∙ ap (λ e. resized e before after) pops)
+    was (omega (arith, length-popped side 1 list.items, was, left)) (edit_pops side 1 list.items) (pop_fits side 1 list)
+    (λ same. absurd (omega (arith, same, length-popped side 1 list.items, ap length is, length-from_end side list.items)))
 
 some_first : (xs : List Bytes) → 0 < length xs → (z : Bytes) × ((zs : List Bytes) × (xs ≡ z ∷ zs))
 some_first [] some = absurd (omega arith)
@@ -124,11 +124,11 @@ pub many_gives : (side : Side) (list : Spared Bytes) (n m before after : ℕ) (e
     → Gives (pop side (Some (pos n)) list.items) (Some (values.List list)) prepared
 many_gives side list n m before after edit prepared some was least left pops replies makes =
     resized_gives (pop side (Some (pos n)) list.items) (bulks (take n (from_end side list.items))) list (popped side m list.items) (pop_edit side m) before after prepared
-      (many_row side n list.items first.1.0 first.0 first.1.1 ∙ ap (λ ys. (bulks (take n (from_end side list.items)), stored ys)) (sym (least_popped side n list.items) ∙ ap (λ k. popped side k list.items) (sym within)))
-      (replies ∙ ap (λ ys. encoding_of (bulks ys)) (least_taken side n m list.items within))
-      (makes ∙ ap (λ e. resized e before after) pops)
-      was (omega (arith, length-popped side m list.items, was, left)) (edit_pops side m list.items) (pop_fits side m list)
-      (λ same. popped_none side m list.items (omega (arith, same, length-popped side m list.items, within)))
+    (many_row side n list.items first.1.0 first.0 first.1.1 ∙ ap (λ ys. (bulks (take n (from_end side list.items)), stored ys)) (sym (least_popped side n list.items) ∙ ap (λ k. popped side k list.items) (sym within)))
+    (replies ∙ ap (λ ys. encoding_of (bulks ys)) (least_taken side n m list.items within))
+    (makes ∙ ap (λ e. resized e before after) pops)
+    was (omega (arith, length-popped side m list.items, was, left)) (edit_pops side m list.items) (pop_fits side m list)
+    (λ same. popped_none side m list.items (omega (arith, same, length-popped side m list.items, within)))
   where
     within : m ≡ min n (length list.items)
     within = least ∙ ap (min n) was

@@ -55,12 +55,12 @@ pub push_gives : (side : Side) (words list : Spared Bytes) (xs : List Bytes) (be
     → Gives (push side words.items xs) (Some (values.List list)) prepared
 push_gives side words list xs before after edit prepared is was sum room pushes replies makes =
     subst (λ (ys : List Bytes). Gives (push side words.items ys) (Some (values.List list)) prepared) is
-      (resized_gives (push side words.items list.items) (count (length (pushed side words.items list.items))) list (pushed side words.items list.items) (push_edit side words) before after prepared
-        (push_is side words.items list.items)
-        (replies ∙ ap (λ n. encoding_of (count n)) long)
-        (makes ∙ ap (λ e. resized e before after) pushes)
-        here long (edit_pushes side words list.items) (push_fits side words list room)
-        (λ same. pushed_none side words.items list.items (omega (arith, length-pushed side words.items list.items, same))))
+    (resized_gives (push side words.items list.items) (count (length (pushed side words.items list.items))) list (pushed side words.items list.items) (push_edit side words) before after prepared
+    (push_is side words.items list.items)
+    (replies ∙ ap (λ n. encoding_of (count n)) long)
+    (makes ∙ ap (λ e. resized e before after) pushes)
+    here long (edit_pushes side words list.items) (push_fits side words list room)
+    (λ same. pushed_none side words.items list.items (omega (arith, length-pushed side words.items list.items, same))))
   where
     here : before ≡ length list.items
     here = was ∙ ap length (sym is)
@@ -75,14 +75,14 @@ pub push_puts : (side : Side) (words : Spared Bytes) (old new : Value) (prepared
     → Gives (push side words.items []) None prepared
 push_puts side words old new prepared some empty is replies makes =
     gives (push side words.items []) (count (length (pushed side words.items []))) (stored (pushed side words.items [])) None prepared (changes.Put new)
-      (push_is side words.items [])
-      (replies ∙ ap (λ n. encoding_of (count n)) long)
-      makes
-      (record {
-        is = ap Some (is ∙ ap (edited (push_edit side words)) empty ∙ edit_pushes side words []) ∙ sym (stored_some (pushed side words.items []) None (omega (arith, long)));
-        fits = tt;
-        alters = tt;
-      })
+    (push_is side words.items [])
+    (replies ∙ ap (λ n. encoding_of (count n)) long)
+    makes
+    (record {
+      is = ap Some (is ∙ ap (edited (push_edit side words)) empty ∙ edit_pushes side words []) ∙ sym (stored_some (pushed side words.items []) None (omega (arith, long)));
+      fits = tt;
+      alters = tt;
+    })
   where
     long : length words.items ≡ length (pushed side words.items [])
     long = omega (arith, length-pushed side words.items [])

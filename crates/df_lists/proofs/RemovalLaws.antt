@@ -1,7 +1,6 @@
 -- How many elements a removal takes, and what it leaves.
-use Rattle.std.proofs.Common.{◌≡◌, ℕ, zero, suc, ◌+◌, ◌-◌, ◌<◌, ◌≤◌, true, false, if◌then◌else◌, not, List, [], ◌∷◌, ◌++◌, length, reverse, drop, refl, sym, ap, ◌∙◌, arith}
+use Rattle.std.proofs.Common.{◌≡◌, ℕ, zero, suc, ◌+◌, ◌-◌, ◌<◌, ◌≤◌, true, false, if◌then◌else◌, List, [], ◌∷◌, length, reverse, drop, refl, sym, ap, ◌∙◌, arith}
 use Rattle.std.specs.Prelude.{ℤ, pos, negsuc}
-use Rattle.std.specs.List.{filter}
 use Rattle.std.proofs.lemmas.List.{length-reverse, length-drop, reverse-reverse}
 use Rattle.df_model.specs.Values.{Bytes}
 use Rattle.df_model.specs.Words.{same}
@@ -107,7 +106,7 @@ pub remove_gives : (n : ℤ) (v : Bytes) (list : Spared Bytes) (removed before a
 remove_gives n v list removed before after prepared counted was left replies makes =
     let gone : removed ≡ length list.items - length (without n v list.items) = omega arith in
     resized_gives (lrem n v list.items) (count removed) list (without n v list.items) (RemoveEqual v n) before after prepared
-      (ap (λ m. (count m, stored (without n v list.items))) (sym gone)) replies makes was (omega arith) refl tt (without_same n v list.items)
+    (ap (λ m. (count m, stored (without n v list.items))) (sym gone)) replies makes was (omega arith) refl tt (without_same n v list.items)
 
 pub trim_gives : (from to : ℤ) (list : Spared Bytes) (before after : ℕ) (prepared : Prepared)
     → before ≡ length list.items → after ≡ ranges.stop to before - ranges.start from before
@@ -116,6 +115,6 @@ pub trim_gives : (from to : ℤ) (list : Spared Bytes) (before after : ℕ) (pre
 trim_gives from to list before after prepared was left replies makes =
     let n : ℕ = length list.items in
     resized_gives (ltrim from to list.items) ok list (ranges.ranged from to list.items) (Trim from to) before after prepared
-      refl replies makes was
-      (left ∙ ap (λ m. ranges.stop to m - ranges.start from m) was ∙ sym (length-range (ranges.start from n) (ranges.stop to n) list.items (stop_within to n)))
-      refl tt (range_all (ranges.start from n) (ranges.stop to n) list.items (stop_within to n))
+    refl replies makes was
+    (left ∙ ap (λ m. ranges.stop to m - ranges.start from m) was ∙ sym (length-range (ranges.start from n) (ranges.stop to n) list.items (stop_within to n)))
+    refl tt (range_all (ranges.start from n) (ranges.stop to n) list.items (stop_within to n))

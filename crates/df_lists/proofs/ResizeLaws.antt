@@ -1,5 +1,5 @@
 -- From an edit of a list, and how long the list is before it and after it, to what a prepared command promises.
-use Rattle.std.proofs.Common.{◌≡◌, ℕ, ◌<◌, true, false, if◌then◌else◌, List, [], ◌∷◌, length, refl, sym, ap, ◌∙◌, subst, inl, inr, arith}
+use Rattle.std.proofs.Common.{◌≡◌, ℕ, ◌<◌, if◌then◌else◌, List, [], ◌∷◌, length, refl, sym, ap, ◌∙◌, subst, inl, inr, arith}
 use Rattle.std.specs.Prelude.{Option, Some, None, nat_eq}
 use Rattle.std.proofs.lemmas.Bool.Decides.{eqb_tells}
 use Rattle.df_model.specs.Values.{Bytes}
@@ -52,7 +52,7 @@ gives row reply new held prepared change is replies makes suits =
 pub keeps : (row : Outcome) (reply : Reply) (held : Option Value) (prepared : Prepared)
     → row ≡ (reply, outcomes.Change.Keep) → prepared.reply ≡ encoding_of reply → prepared.change ≡ changes.Keep → Gives row held prepared
 keeps row reply held prepared is replies makes =
-    gives row reply outcomes.Change.Keep held prepared changes.Keep is replies makes (record { is = refl; fits = tt; alters = tt; })
+    gives row reply outcomes.Change.Keep held prepared changes.Keep is replies makes (record { is = refl; fits = tt; alters = tt })
 
 -- an edit that gives another list, which isn't empty
 pub suits_edit : (list : Spared Bytes) (ys : List Bytes) (edit : Edit) → 0 < length ys → (ys ≡ list.items → ⊥)

@@ -12,5 +12,7 @@ mod pop;
 mod push;
 mod removal;
 mod resize;
+#[cfg(test)]
+mod tests;
 
 pub use dispatch::prepare;

@@ -43,7 +43,13 @@ pub fn lindex(alloc: Global, at: i64, list: &ListVal) -> Result<Prepared, NoMemo
 }
 
 /// An array of the elements from `start` up to `stop`, as they are met from this end.
-pub fn elements(alloc: Global, list: &ListVal, side: Side, start: usize, stop: usize) -> Result<Pieces, NoMemory>
+pub fn elements(
+    alloc: Global,
+    list: &ListVal,
+    side: Side,
+    start: usize,
+    stop: usize,
+) -> Result<Pieces, NoMemory>
     requires { stop ≤ length list.now.items }
     ensures { IfOk result (λ pieces. pieces ≡ encoding_of (outcomes.bulks (drop start (take stop (from_end side list.now.items))))) }
 {

@@ -51,7 +51,13 @@ fn is_at(list: &ListVal, at: usize, bytes: &[u8]) -> bool
 }
 
 /// An element comes beside the first that equals the pivot.
-pub fn linsert(alloc: Global, beside: Beside, pivot: &[u8], element: Bin, list: &mut ListVal) -> Result<Prepared, NoMemory>
+pub fn linsert(
+    alloc: Global,
+    beside: Beside,
+    pivot: &[u8],
+    element: Bin,
+    list: &mut ListVal,
+) -> Result<Prepared, NoMemory>
     ensures ok { IfOk result (λ prepared. GivesOn (rows.linsert beside pivot.now element list.old.items) list.new prepared) }
     ensures kept { list.new.items ≡ list.old.items }
 {

@@ -12,7 +12,12 @@ use df_values::{Edit, Pieces, Prepared};
 use std::alloc::Global;
 
 /// An element leaves at this end, or as many as the count says, the outermost first.
-pub fn pop(alloc: Global, side: Side, count: Option<i64>, list: &ListVal) -> Result<Prepared, NoMemory>
+pub fn pop(
+    alloc: Global,
+    side: Side,
+    count: Option<i64>,
+    list: &ListVal,
+) -> Result<Prepared, NoMemory>
     ensures { IfOk result (λ prepared. GivesOn (ends.pop side count list.now.items) list.now prepared) }
 {
     match count {

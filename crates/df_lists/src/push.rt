@@ -12,7 +12,12 @@ use df_values::{Change, Edit, Pieces, Prepared, Value};
 use std::alloc::Global;
 
 /// Each word in turn goes to this end.
-pub fn push(alloc: Global, side: Side, words: Bins, list: &mut ListVal) -> Result<Prepared, NoMemory>
+pub fn push(
+    alloc: Global,
+    side: Side,
+    words: Bins,
+    list: &mut ListVal,
+) -> Result<Prepared, NoMemory>
     ensures ok { IfOk result (λ prepared. GivesOn (ends.push side words.items list.old.items) list.new prepared) }
     ensures kept { list.new.items ≡ list.old.items }
 {
@@ -27,7 +32,12 @@ pub fn push(alloc: Global, side: Side, words: Bins, list: &mut ListVal) -> Resul
 }
 
 /// The same, but an empty list stays as it is.
-pub fn pushx(alloc: Global, side: Side, words: Bins, list: &mut ListVal) -> Result<Prepared, NoMemory>
+pub fn pushx(
+    alloc: Global,
+    side: Side,
+    words: Bins,
+    list: &mut ListVal,
+) -> Result<Prepared, NoMemory>
     ensures ok { IfOk result (λ prepared. GivesOn (ends.pushx side words.items list.old.items) list.new prepared) }
     ensures kept { list.new.items ≡ list.old.items }
 {

@@ -1,5 +1,6 @@
 //! That commands give what the command pages show, and succeed where there is memory.
 
+ghost use Rattle.std.specs.Prelude.{IfOk};
 ghost use Rattle.df_model.specs.Families.{family_of};
 ghost use Rattle.df_sets.specs.Serves.{Serves};
 
@@ -9,7 +10,30 @@ use df_model::{Bin, Bins, NoMemory, OneOp};
 use df_values::{Change, StrVal, Value};
 use std::alloc::Global;
 
-/// Words of one byte each.
+#[derive(Clone, Copy)]
+enum Name {
+    Sadd,
+    Srem,
+    Scard,
+    Sismember,
+    Smismember,
+    Smembers,
+}
+
+/// A command with words of one byte each.
+fn named(alloc: Global, name: Name, text: &[u8]) -> Result<OneOp, NoMemory>
+    ensures { IfOk result (λ op. Serves (family_of op)) }
+{
+    Ok(match name {
+        Name::Sadd => OneOp::Sadd(words(alloc, text)?),
+        Name::Srem => OneOp::Srem(words(alloc, text)?),
+        Name::Scard => OneOp::Scard,
+        Name::Sismember => OneOp::Sismember(Bin::from_slice(alloc, text)?),
+        Name::Smismember => OneOp::Smismember(words(alloc, text)?),
+        Name::Smembers => OneOp::Smembers,
+    })
+}
+
 fn words(alloc: Global, text: &[u8]) -> Result<Bins, NoMemory> {
     let mut words = Bins::new(alloc);
     'bytes: for byte in text {
@@ -27,6 +51,17 @@ fn set(alloc: Global, text: &[u8]) -> Result<SetVal, NoMemory> {
         let _new = set.add(Bin::from_slice(alloc, &[*byte])?);
     }
     Ok(set)
+}
+
+/// A set; a string where the text begins with a quote; nothing where there is no text.
+fn held(alloc: Global, text: &[u8]) -> Result<Option<Value>, NoMemory> {
+    if text.is_empty() {
+        return Ok(None);
+    }
+    if text[0] == b'"' {
+        return Ok(Some(Value::Str(StrVal::new(alloc))));
+    }
+    Ok(Some(Value::Set(set(alloc, text)?)))
 }
 
 /// What becomes of the key, and the reply.
@@ -51,76 +86,37 @@ fn name_of(change: &Change) -> &[u8] {
 #[test]
 fn commands_give_what_the_command_pages_show(rt: HostRuntime) -> Result<(), NoMemory> {
     let alloc = rt.alloc();
-    let sadd = given(alloc, OneOp::Sadd(words(alloc, b"ab")?), None)?;
-    assert_eq!(rt;
-        sadd.as_slice(),
-        b"put :2\r\n".as_slice(),
-        "SADD of a missing key"
-    );
-    let mut value = Value::Set(set(alloc, b"ab")?);
-    let sadd = given(alloc, OneOp::Sadd(words(alloc, b"ccab")?), Some(&mut value))?;
-    assert_eq!(rt;
-        sadd.as_slice(),
-        b"edit :1\r\n".as_slice(),
-        "SADD of one that is new"
-    );
-    let sadd = given(alloc, OneOp::Sadd(words(alloc, b"a")?), Some(&mut value))?;
-    assert_eq!(rt;
-        sadd.as_slice(),
-        b"keep :0\r\n".as_slice(),
-        "SADD of nothing new"
-    );
-    let srem = given(alloc, OneOp::Srem(words(alloc, b"xbb")?), Some(&mut value))?;
-    assert_eq!(rt; srem.as_slice(), b"edit :1\r\n".as_slice(), "SREM of one");
-    let srem = given(alloc, OneOp::Srem(words(alloc, b"x")?), Some(&mut value))?;
-    assert_eq!(rt; srem.as_slice(), b"keep :0\r\n".as_slice(), "SREM of none");
-    let srem = given(alloc, OneOp::Srem(words(alloc, b"bxa")?), Some(&mut value))?;
-    assert_eq!(rt; srem.as_slice(), b"delete :2\r\n".as_slice(), "SREM of all");
-    let each = given(
-        alloc,
-        OneOp::Smismember(words(alloc, b"ax")?),
-        Some(&mut value),
-    )?;
-    assert_eq!(rt;
-        each.as_slice(),
-        b"keep *2\r\n:1\r\n:0\r\n".as_slice(),
-        "SMISMEMBER"
-    );
-    Ok(())
-}
-
-#[test]
-fn missing_keys_and_other_kinds_are_answered(rt: HostRuntime) -> Result<(), NoMemory> {
-    let alloc = rt.alloc();
-    let scard = given(alloc, OneOp::Scard, None)?;
-    assert_eq!(rt;
-        scard.as_slice(),
-        b"keep :0\r\n".as_slice(),
-        "SCARD of a missing key"
-    );
-    let srem = given(alloc, OneOp::Srem(words(alloc, b"a")?), None)?;
-    assert_eq!(rt;
-        srem.as_slice(),
-        b"keep :0\r\n".as_slice(),
-        "SREM of a missing key"
-    );
-    let mut value = Value::Set(set(alloc, b"ba")?);
-    let all = given(alloc, OneOp::Smembers, Some(&mut value))?;
-    assert_eq!(rt;
-        all.as_slice(),
-        b"keep *2\r\n$1\r\na\r\n$1\r\nb\r\n".as_slice(),
-        "SMEMBERS"
-    );
-    let mut text = Value::Str(StrVal::new(alloc));
-    let refused = given(
-        alloc,
-        OneOp::Sismember(Bin::from_slice(alloc, b"a")?),
-        Some(&mut text),
-    )?;
-    assert_eq!(rt;
-        refused.as_slice(),
-        b"keep -WRONGTYPE Operation against a key holding the wrong kind of value\r\n".as_slice()
-    );
+    let cases: [(Name, &[u8], &[u8], &[u8]); 13] = [
+        (Name::Sadd, b"aba", b"", b"put :2\r\n"),
+        (Name::Sadd, b"ccab", b"ab", b"edit :1\r\n"),
+        (Name::Sadd, b"ba", b"ab", b"keep :0\r\n"),
+        (
+            Name::Sadd,
+            b"a",
+            b"\"",
+            b"keep -WRONGTYPE Operation against a key holding the wrong kind of value\r\n",
+        ),
+        (Name::Srem, b"xbb", b"ab", b"edit :1\r\n"),
+        (Name::Srem, b"x", b"ab", b"keep :0\r\n"),
+        (Name::Srem, b"bxa", b"ab", b"delete :2\r\n"),
+        (Name::Srem, b"a", b"", b"keep :0\r\n"),
+        (Name::Scard, b"", b"ab", b"keep :2\r\n"),
+        (Name::Sismember, b"x", b"ab", b"keep :0\r\n"),
+        (Name::Smismember, b"ax", b"ab", b"keep *2\r\n:1\r\n:0\r\n"),
+        (
+            Name::Smembers,
+            b"",
+            b"ba",
+            b"keep *2\r\n$1\r\na\r\n$1\r\nb\r\n",
+        ),
+        (Name::Smembers, b"", b"", b"keep *0\r\n"),
+    ];
+    'cases: for (name, text, members, want) in cases {
+        let op = named(alloc, name, text)?;
+        let mut value = held(alloc, members)?;
+        let given = given(alloc, op, value.as_mut())?;
+        assert_eq!(rt; given.as_slice(), want);
+    }
     Ok(())
 }
 
@@ -128,17 +124,10 @@ fn missing_keys_and_other_kinds_are_answered(rt: HostRuntime) -> Result<(), NoMe
 fn sets_are_combined_as_the_command_pages_show(rt: HostRuntime) -> Result<(), NoMemory> {
     let alloc = rt.alloc();
     let one = set(alloc, b"abcd")?;
-    let two = set(alloc, b"c")?;
-    let three = set(alloc, b"ace")?;
-    let sets = [&one, &two, &three];
-    let both = combine(alloc, Combine::Inter, &sets)?;
-    assert!(rt; both.len() == 1 && both.has(b"c"), "SINTER");
-    let either = combine(alloc, Combine::Union, &sets)?;
-    assert!(rt; either.len() == 5 && either.has(b"e"), "SUNION");
-    let rest = combine(alloc, Combine::Diff, &sets)?;
-    assert!(rt;
-        rest.len() == 2 && rest.has(b"b") && rest.has(b"d"),
-        "SDIFF"
-    );
+    let two = set(alloc, b"ace")?;
+    'ops: for (op, size) in [(Combine::Inter, 2), (Combine::Union, 5), (Combine::Diff, 2)] {
+        let made = combine(alloc, op, &[&one, &two])?;
+        assert_eq!(rt; made.len(), size);
+    }
     Ok(())
 }

@@ -1,4 +1,4 @@
-use Rattle.std.proofs.Common.{refl, ap, rules}
+use Rattle.std.proofs.Common.{refl, rules}
 use Rattle.df_lists.proofs.PlaceLaws.{set_keeps, set_edits}
 use Rattle.df_lists.proofs.place_in.set_at.Goals as goal
 

@@ -1,4 +1,4 @@
-use Rattle.std.proofs.Common.{refl, sym, ap, ◌∙◌, arith, rules}
+use Rattle.std.proofs.Common.{refl, ap, ◌∙◌, arith}
 use Rattle.df_model.specs.Values as plain
 use Rattle.df_model.specs.Outcomes.{count}
 use Rattle.df_model.specs.Replies.{encoding_of}
@@ -11,6 +11,6 @@ use Rattle.df_lists.proofs.push.push_to_nothing.Goals as goal
 pub returns : goal.returns
 returns c =
     push_puts c.args.side c.args.words (values.List c.reserve.new.self) c.apply.new.value _ (omega (arith, c.len-2.ensures, c.if-len-eq0.false))
-      (ap plain.Value.Elements (c.reserve.ensures.items ∙ c.new-list.ensures))
-      (c.apply.ensures ∙ ap (λ edit. edited edit (seen (values.List c.reserve.new.self))) c.edit_of.ensures)
-      (c.in_ok-reply.ensures ∙ ap (λ n. encoding_of (count n)) c.len.ensures) refl
+    (ap plain.Value.Elements (c.reserve.ensures.items ∙ c.new-list.ensures))
+    (c.apply.ensures ∙ ap (λ edit. edited edit (seen (values.List c.reserve.new.self))) c.edit_of.ensures)
+    (c.in_ok-reply.ensures ∙ ap (λ n. encoding_of (count n)) c.len.ensures) refl

@@ -1,4 +1,4 @@
-use Rattle.std.proofs.Common.{◌≡◌, ◌∷◌, ◌+◌, ◌-◌, ◌≤◌, ℕ, true, false, length, drop, sym, ap, ◌∙◌, subst, arith, rules}
+use Rattle.std.proofs.Common.{◌≡◌, ◌∷◌, ◌+◌, ◌-◌, ℕ, true, false, length, drop, sym, ap, ◌∙◌, subst, arith, rules}
 use Rattle.std.specs.Option.{option_copied}
 use Rattle.df_model.specs.Words.{same}
 use Rattle.df_model.specs.Meaning.Lists.{without_first}
@@ -19,19 +19,19 @@ elements-preserved c =
     let step : ℕ → Type 0 = λ met. met + total ≡ c.elements.at + 1 + length (without_first (c.args.most - met) v rest) in
     elim c.if-eq.branch [
       | then-eq w ↦
-        let is : same x v ≡ true = search rules in
-        record {
-          count = subst step (sym w.met-is) (count_met c.elements.met c.args.most c.elements.at total v x (drop c.elements.at xs) rest (omega arith) next is c.elements.invariant.count);
-          met = omega arith;
-          most = omega arith;
-        }
+          let is : same x v ≡ true = search rules in
+          record {
+            count = subst step (sym w.met-is) (count_met c.elements.met c.args.most c.elements.at total v x (drop c.elements.at xs) rest (omega arith) next is c.elements.invariant.count);
+            met = omega arith;
+            most = omega arith;
+          }
       | else-eq w ↦
-        let is : same x v ≡ false = search rules in
-        record {
-          count = subst step (sym w.met-is) (count_passed c.elements.met c.args.most c.elements.at total v x (drop c.elements.at xs) rest next is c.elements.invariant.count);
-          met = omega arith;
-          most = omega arith;
-        }
+          let is : same x v ≡ false = search rules in
+          record {
+            count = subst step (sym w.met-is) (count_passed c.elements.met c.args.most c.elements.at total v x (drop c.elements.at xs) rest next is c.elements.invariant.count);
+            met = omega arith;
+            most = omega arith;
+          }
     ]
 
 pub returns : goal.returns

@@ -1,4 +1,4 @@
-use Rattle.std.proofs.Common.{◌≡◌, subst, IfOk, Some}
+use Rattle.std.proofs.Common.{subst, IfOk, Some}
 use Rattle.df_model.specs.Outcomes.{Outcome}
 use Rattle.df_values.specs.Prepares.{Gives}
 use Rattle.df_values.specs.declared.value.Value.TheVariants.{Set}

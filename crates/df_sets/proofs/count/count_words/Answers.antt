@@ -1,4 +1,4 @@
-use Rattle.std.proofs.Common.{◌≡◌, ◌+◌, ◌∷◌, drop, length, ap, sym, subst, ◌∙◌, rules, arith, not}
+use Rattle.std.proofs.Common.{◌≡◌, ◌+◌, ◌∷◌, drop, length, ap, subst, ◌∙◌, rules, arith, not}
 use Rattle.df_model.specs.Members.{contains, insert}
 use Rattle.df_colls.proofs.CountLaws.{next_of, room_left}
 use Rattle.df_sets.proofs.MemberLaws.{SoFar, single, starts, passed, counted, after, differ, agree, as_number, at_most_one}

@@ -1,4 +1,4 @@
-use Rattle.std.proofs.Common.{◌≡◌, subst, ◌∙◌, IfOk}
+use Rattle.std.proofs.Common.{◌≡◌, subst, IfOk}
 use Rattle.df_model.specs.Values.{Members}
 use Rattle.df_sets.proofs.CombineLaws.{from_first}
 use Rattle.df_sets.proofs.fold.combine.Goals as goal

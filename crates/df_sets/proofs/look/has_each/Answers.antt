@@ -1,4 +1,4 @@
-use Rattle.std.proofs.Common.{◌∙◌, arith}
+use Rattle.std.proofs.Common.{arith}
 use Rattle.df_model.specs.Meaning.Sets.{sismember}
 use Rattle.df_sets.proofs.ReplyLaws.{array_of, begins, goes_on, ends}
 use Rattle.df_sets.proofs.look.has_each.Goals as goal

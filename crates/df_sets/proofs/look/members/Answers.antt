@@ -1,4 +1,4 @@
-use Rattle.std.proofs.Common.{◌≡◌, ◌≤◌, ◌+◌, length, codes, decimal, ◌++◌, ap, ◌∙◌, rules, arith}
+use Rattle.std.proofs.Common.{◌≡◌, ◌≤◌, ◌+◌, length, codes, decimal, ◌++◌, ap, ◌∙◌, arith}
 use Rattle.std.specs.FinMap as map
 use Rattle.df_model.specs.Members as members
 use Rattle.df_model.specs.Replies.{crlf, encoding_of}
