@@ -12,7 +12,7 @@ use Rattle.df_model.specs.Outcomes.{KeyRow, Outcome, outcome, settled}
 use Rattle.df_model.specs.Replies.{encoding_of}
 use Rattle.df_model.proofs.LocalityLaws.{tied, held_with, reads_one, writes_one}
 use Rattle.df_model.proofs.WholeLaws.{same_map_by, tied_bytes}
-use Rattle.df_values.specs.Seen.{seen, seen_held}
+use Rattle.df_values.specs.Seen.{seen}
 use Rattle.df_values.specs.Edits.{applied, Fits, Alters}
 use Rattle.df_values.specs.Prepares.{Gives as Prepares}
 use Rattle.df_values.specs.declared.value.Value.{Value}
@@ -53,8 +53,8 @@ ran_at Stays row key K after before now old new h left ran = record {
 }
 ran_at Goes row key K after before now old new h left ran = record {
   left = (
-      ap (λ v. settled (outcome row v).1 v) h ∙ ran.left.0,
-      left ∙ ap (λ v. with_held K key (Some v)) ran.left.1 ∙ put_back K key (Some before) h
+    ap (λ v. settled (outcome row v).1 v) h ∙ ran.left.0,
+    left ∙ ap (λ v. with_held K key (Some v)) ran.left.1 ∙ put_back K key (Some before) h,
   );
   adds = ran.adds ∙ ap (λ v. old ++ encoding_of (outcome row v).0) (sym h);
 }
@@ -69,31 +69,27 @@ went row key K middle after old new ran gone =
 
 -- ---- where it holds nothing
 
-nothing_seen : (held : Option Value) → seen_held held ≡ None → held ≡ None
-nothing_seen None e = refl
-nothing_seen (Some v) e = cc
-
-pub put_new : {at : Option Value} (row : KeyRow) (key : Bytes) (K middle after : Keyspace) (prepared : Prepared) (value : Value) (old new : Bytes) → held K key ≡ None → seen_held at ≡ None → middle ≡ K
-    → Prepares (outcome row None) at prepared → prepared.change ≡ changes.Put value → after ≡ with_held middle key (Some (seen value)) → new ≡ old ++ prepared.reply → Gives (does (on_key key row) K) after old new
-put_new {at = at} row key K middle after prepared value old new none missing same prepares puts left added =
+pub put_new : (row : KeyRow) (key : Bytes) (K middle after : Keyspace) (prepared : Prepared) (value : Value) (old new : Bytes) → held K key ≡ None → middle ≡ K
+    → Prepares (outcome row None) None prepared → prepared.change ≡ changes.Put value → after ≡ with_held middle key (Some (seen value)) → new ≡ old ++ prepared.reply → Gives (does (on_key key row) K) after old new
+put_new row key K middle after prepared value old new none same prepares puts left added =
     let puts_it : Some (seen value) ≡ settled (outcome row None).1 None =
-    ap (λ c. applied c (seen_held at)) (sym puts) ∙ prepares.change ∙ ap (settled (outcome row None).1) missing in
+    ap (λ c. applied c None) (sym puts) ∙ prepares.change in
     one_gives key row K after old new
     (left ∙ ap (λ k. with_held k key (Some (seen value))) same ∙ ap (with_held K key) puts_it ∙ ap (λ v. with_held K key (settled (outcome row v).1 v)) (sym none))
     (added ∙ ap (λ r. old ++ r) (prepares.reply ∙ ap (λ v. encoding_of (outcome row v).0) (sym none)))
 
-keeps_nothing : (change : Change) (held : Option Value) → held ≡ None → ((v : Value) → change ≡ changes.Put v → ⊥) → Fits change held → applied change (seen_held held) ≡ None
-keeps_nothing changes.Keep held e not fits = ap seen_held e
-keeps_nothing (changes.Put v) held e not fits = absurd (not v refl)
-keeps_nothing changes.Delete held e not fits = refl
-keeps_nothing (changes.Edit edit) held e not fits = absurd (subst (Fits (changes.Edit edit)) e fits)
+keeps_nothing : (change : Change) → ((v : Value) → change ≡ changes.Put v → ⊥) → Fits change None → applied change None ≡ None
+keeps_nothing changes.Keep not fits = refl
+keeps_nothing (changes.Put v) not fits = absurd (not v refl)
+keeps_nothing changes.Delete not fits = refl
+keeps_nothing (changes.Edit edit) not fits = absurd fits
 
 -- nothing is put, so the key still holds nothing
-pub kept_nothing : {at : Option Value} (row : KeyRow) (key : Bytes) (K : Keyspace) (prepared : Prepared) (old new : Bytes) → held K key ≡ None → seen_held at ≡ None
-    → Prepares (outcome row None) at prepared → ((v : Value) → prepared.change ≡ changes.Put v → ⊥) → new ≡ old ++ prepared.reply → Gives (does (on_key key row) K) K old new
-kept_nothing {at = at} row key K prepared old new none missing prepares not added =
+pub kept_nothing : (row : KeyRow) (key : Bytes) (K : Keyspace) (prepared : Prepared) (old new : Bytes) → held K key ≡ None
+    → Prepares (outcome row None) None prepared → ((v : Value) → prepared.change ≡ changes.Put v → ⊥) → new ≡ old ++ prepared.reply → Gives (does (on_key key row) K) K old new
+kept_nothing row key K prepared old new none prepares not added =
     let nothing : settled (outcome row None).1 None ≡ None =
-    ap (settled (outcome row None).1) (sym missing) ∙ sym prepares.change ∙ keeps_nothing prepared.change at (nothing_seen at missing) not prepares.fits in
+    sym prepares.change ∙ keeps_nothing prepared.change not prepares.fits in
     one_gives key row K K old new
     (sym (ap (λ v. with_held K key (settled (outcome row v).1 v)) none ∙ put_back K key (settled (outcome row None).1 None) (none ∙ sym nothing)))
     (added ∙ ap (λ r. old ++ r) (prepares.reply ∙ ap (λ v. encoding_of (outcome row v).0) (sym none)))

@@ -1,5 +1,8 @@
 pub mod Answers
 pub mod Fates
+pub mod HeldSets
+pub mod Joined
+pub mod Moved
 pub mod Pipe
 pub mod Promise
 pub mod Responses

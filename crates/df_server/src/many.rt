@@ -5,14 +5,18 @@ ghost use Rattle.df_model.specs.Access.{does};
 ghost use Rattle.df_model.specs.Meaning.{many};
 ghost use Rattle.df_server.specs.Responses.{Gives};
 
+use crate::combos::{combine_keys, store_combined};
+use crate::moves::{lmove, rpoplpush};
 use crate::several::{del, exists, mget, mset, msetnx, rename, renamenx};
+use crate::smove::smove;
 use crate::table::Table;
 use df_model::{ManyOp, NoMemory};
+use df_sets::Combine;
 use std::alloc::Global;
 
 /// Runs a command of several keys.
 pub fn run_many(
-    _alloc: Global,
+    alloc: Global,
     table: &mut Table,
     op: ManyOp,
     out: &mut Vec<u8>,
@@ -30,6 +34,56 @@ pub fn run_many(
         ManyOp::Msetnx(pairs) => msetnx(table, pairs, out),
         ManyOp::Rename(source, destination) => rename(table, source, destination, out),
         ManyOp::Renamenx(source, destination) => renamenx(table, source, destination, out),
-        _ => Err(NoMemory),
+        ManyOp::Lmove(source, destination, from, to) => lmove(
+            alloc,
+            table,
+            source,
+            destination,
+            from,
+            to,
+            out,
+        ),
+        ManyOp::Rpoplpush(source, destination) => rpoplpush(alloc, table, source, destination, out),
+        ManyOp::Smove(source, destination, member) => smove(
+            alloc,
+            table,
+            source,
+            destination,
+            member,
+            out,
+        ),
+        ManyOp::Sinter(keys) => combine_keys(alloc, table, Combine::Inter, keys.as_slice(), out),
+        ManyOp::Sunion(keys) => combine_keys(alloc, table, Combine::Union, keys.as_slice(), out),
+        ManyOp::Sdiff(keys) => combine_keys(alloc, table, Combine::Diff, keys.as_slice(), out),
+        ManyOp::Sinterstore(destination, keys) => {
+            store_combined(
+                alloc,
+                table,
+                Combine::Inter,
+                destination,
+                keys.as_slice(),
+                out,
+            )
+        }
+        ManyOp::Sunionstore(destination, keys) => {
+            store_combined(
+                alloc,
+                table,
+                Combine::Union,
+                destination,
+                keys.as_slice(),
+                out,
+            )
+        }
+        ManyOp::Sdiffstore(destination, keys) => {
+            store_combined(
+                alloc,
+                table,
+                Combine::Diff,
+                destination,
+                keys.as_slice(),
+                out,
+            )
+        }
     }
 }

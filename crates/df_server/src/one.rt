@@ -9,9 +9,8 @@ ghost use Rattle.df_model.specs.Access.{does, on_key};
 ghost use Rattle.df_model.specs.Meaning.{one};
 ghost use Rattle.df_model.specs.Outcomes.{outcome, settled};
 ghost use Rattle.df_model.specs.Replies.{encoding_of};
-ghost use Rattle.df_values.specs.Lent.{lent, left};
 ghost use Rattle.df_values.specs.Prepares.{Gives as Prepares};
-ghost use Rattle.df_values.specs.Seen.{seen, seen_held};
+ghost use Rattle.df_values.specs.Seen.{seen};
 ghost use Rattle.df_server.specs.Responses.{Gives};
 ghost use Rattle.df_server.specs.Fates.{Ran};
 
@@ -64,7 +63,7 @@ impl Table {
         ensures keys { OnErr result (self.new.keys ≡ self.old.keys) }
         ensures out { OnErr result (out.new.items ≡ out.old.items) }
     {
-        let Prepared { reply, change } = prepare(alloc, op, None)?;
+        let Prepared { reply, change } = prepare_on_nothing(alloc, op)?;
         match change {
             Change::Put(value) => {
                 self.reserve(1)?;
@@ -88,7 +87,7 @@ pub fn run_on(
     ensures value { OnErr result (seen value.new ≡ seen value.old) }
     ensures out { OnErr result (out.new.items ≡ out.old.items) }
 {
-    let Prepared { reply, change } = prepare(alloc, op, Some(value))?;
+    let Prepared { reply, change } = prepare_on(alloc, op, value)?;
     reply.append_to(out)?;
     match change {
         Change::Keep => Ok(Fate::Stays),
@@ -104,14 +103,27 @@ pub fn run_on(
     }
 }
 
-/// Prepares a command of one key, by its family.
-fn prepare(
-    _alloc: Global,
-    op: OneOp,
-    value: Option<&mut Value>,
-) -> Result<Prepared, NoMemory>
-    ensures ok { IfOk result (λ prepared. Prepares (outcome (one op) (seen_held (lent value.entry))) (left value.exit) prepared) }
-    ensures kept { seen_held (left value.exit) ≡ seen_held (lent value.entry) }
+/// Prepares a command of a key that isn't there, by the command's family.
+fn prepare_on_nothing(alloc: Global, op: OneOp) -> Result<Prepared, NoMemory>
+    ensures { IfOk result (λ prepared. Prepares (outcome (one op) None) None prepared) }
 {
-    Err(NoMemory)
+    match op.family() {
+        Family::Any | Family::Strings => df_strings::prepare(alloc, op, None),
+        Family::Lists => df_lists::prepare(alloc, op, None),
+        Family::Hashes => df_hashes::prepare(alloc, op, None),
+        Family::Sets => df_sets::prepare(alloc, op, None),
+    }
+}
+
+/// Prepares a command of a key that holds this value.
+fn prepare_on(alloc: Global, op: OneOp, value: &mut Value) -> Result<Prepared, NoMemory>
+    ensures ok { IfOk result (λ prepared. Prepares (outcome (one op) (Some (seen value.old))) (Some value.new) prepared) }
+    ensures kept { seen value.new ≡ seen value.old }
+{
+    match op.family() {
+        Family::Any | Family::Strings => df_strings::prepare(alloc, op, Some(value)),
+        Family::Lists => df_lists::prepare(alloc, op, Some(value)),
+        Family::Hashes => df_hashes::prepare(alloc, op, Some(value)),
+        Family::Sets => df_sets::prepare(alloc, op, Some(value)),
+    }
 }

@@ -18,7 +18,9 @@ ghost use Rattle.df_server.specs.Responses.{Gives};
 use crate::lines::{push_count, reserve_line};
 use crate::table::Table;
 use df_model::{Bin, ErrorText, NoMemory, Pairs};
-use df_resp::{encode_array_head, encode_bulk, encode_count, encode_error, encode_null, encode_simple};
+use df_resp::{
+    encode_array_head, encode_bulk, encode_count, encode_error, encode_null, encode_simple,
+};
 use df_values::{StrVal, Value};
 
 /// DEL and UNLINK.
@@ -141,7 +143,12 @@ fn put_strings(table: &mut Table, pairs: Pairs)
 }
 
 /// RENAME. Onto itself a key stays.
-pub fn rename(table: &mut Table, source: Bin, destination: Bin, out: &mut Vec<u8>) -> Result<(), NoMemory>
+pub fn rename(
+    table: &mut Table,
+    source: Bin,
+    destination: Bin,
+    out: &mut Vec<u8>,
+) -> Result<(), NoMemory>
     ensures ok { OnOk result (Gives (any.rename source destination table.old.keys) table.new.keys out.old.items out.new.items) }
     ensures keys { OnErr result (table.new.keys ≡ table.old.keys) }
     ensures out { OnErr result (out.new.items ≡ out.old.items) }
@@ -157,7 +164,12 @@ pub fn rename(table: &mut Table, source: Bin, destination: Bin, out: &mut Vec<u8
 }
 
 /// RENAMENX.
-pub fn renamenx(table: &mut Table, source: Bin, destination: Bin, out: &mut Vec<u8>) -> Result<(), NoMemory>
+pub fn renamenx(
+    table: &mut Table,
+    source: Bin,
+    destination: Bin,
+    out: &mut Vec<u8>,
+) -> Result<(), NoMemory>
     ensures ok { OnOk result (Gives (any.renamenx source destination table.old.keys) table.new.keys out.old.items out.new.items) }
     ensures keys { OnErr result (table.new.keys ≡ table.old.keys) }
     ensures out { OnErr result (out.new.items ≡ out.old.items) }

@@ -130,8 +130,7 @@ fn is_right(alloc: Global, row: &str) -> Result<bool, Fail> {
     let wanted = replies.replace(alloc, "|", "\r\n")?;
     let (status, sink) = pipe(alloc, &[input.as_slice()])?;
     let written = sink.written();
-    Ok(status == 0
-        && written.strip_suffix(b"\r\n".as_slice()) == Some(wanted.as_bytes()))
+    Ok(status == 0 && written.strip_suffix(b"\r\n".as_slice()) == Some(wanted.as_bytes()))
 }
 
 /// The requests as they are sent.

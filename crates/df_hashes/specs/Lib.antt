@@ -1,0 +1,6 @@
+pub mod Serves
+pub mod Parts
+pub mod Rows
+pub mod Tasks
+pub mod Makes
+pub mod Counts
