@@ -1,10 +1,8 @@
 -- An element in the place of another, or beside another.
-use Rattle.std.proofs.Common.{◌≡◌, ℕ, zero, suc, ◌+◌, ◌<◌, ◌≤◌, Bool, true, false, List, [], ◌∷◌, length, drop, refl, sym, ap, ◌∙◌, inl, inr, arith}
-use Rattle.std.specs.Prelude.{Option, Some, None, slice_get, slice_set, ◌⊎◌}
-use Rattle.std.specs.Prelude.{negsuc, take}
+use Rattle.std.proofs.Common.{◌≡◌, ℕ, zero, suc, ◌+◌, ◌<◌, ◌≤◌, Bool, true, false, List, [], ◌∷◌, length, take, drop, length-append, refl, sym, ap, ◌∙◌, inl, inr, arith}
+use Rattle.std.specs.Prelude.{Option, Some, None, negsuc, slice_get, slice_set, ◌⊎◌}
 use Rattle.std.specs.List.{insert}
 use Rattle.std.proofs.lemmas.List.{length-drop, length-take}
-use Rattle.std.proofs.Common.{length-append}
 use Rattle.std.proofs.Math.ListN.{length-set}
 use Rattle.df_model.specs.Spared.{Spared}
 use Rattle.df_model.specs.Values as plain
@@ -16,7 +14,6 @@ use Rattle.df_values.specs.declared.edit.Edit.TheVariants.{SetAt, InsertAt}
 use Rattle.df_values.specs.declared.change.Change.TheVariants as changes
 use Rattle.df_values.specs.declared.change.Prepared.{Prepared}
 use Rattle.df_values.specs.Prepares.{Gives}
-use Rattle.df_lists.proofs.RangeLaws.{no_more}
 use Rattle.df_lists.proofs.ResizeLaws.{gives, suits_edit, suits_keep}
 use Rattle.df_model.specs.Values.{Bytes}
 use Rattle.df_model.specs.Words.{same}
@@ -38,9 +35,6 @@ not_here at p x ys zs o next is so_far =
 pub here : (at : ℕ) (p x : Bytes) (ys zs : List Bytes) (o : Option ℕ) → ys ≡ x ∷ zs → same x p ≡ true → o ≡ further at (place_of p ys) → Some at ≡ o
 here at p x ys zs o next is so_far =
     sym (so_far ∙ ap (λ ws. further at (place_of p ws)) next ∙ rw is (ap Some (omega arith)))
-
-pub nowhere : (at : ℕ) (p : Bytes) (xs : List Bytes) (o : Option ℕ) → length xs ≤ at → o ≡ further at (place_of p (drop at xs)) → None ≡ o
-nowhere at p xs o past so_far = sym (so_far ∙ ap (λ ys. further at (place_of p ys)) (no_more (drop at xs) (omega (arith, length-drop at xs))))
 
 -- ---- beside it
 

@@ -1,9 +1,8 @@
 -- A range of a list, element by element, and how long it is.
-use Rattle.std.proofs.Common.{◌≡◌, ℕ, zero, suc, ◌+◌, ◌-◌, ◌<◌, ◌≤◌, List, [], ◌∷◌, ◌++◌, length, take, drop, codes, decimal, refl, sym, ap, ◌∙◌, arith, append_assoc, append-nil}
+use Rattle.std.proofs.Common.{◌≡◌, ℕ, zero, suc, ◌+◌, ◌-◌, ◌<◌, ◌≤◌, List, [], ◌∷◌, ◌++◌, length, take, drop, codes, decimal, refl, sym, ap, ◌∙◌, arith, append_assoc}
 use Rattle.std.specs.Prelude.{ℤ, pos, negsuc, Some, None, slice_get}
 use Rattle.std.specs.List.{flat_map}
-use Rattle.std.proofs.lemmas.List.{length-drop, length-take-le}
-use Rattle.std.proofs.Math.Seq.{drop-nil}
+use Rattle.std.proofs.lemmas.List.{length-reverse, length-drop, length-take-le}
 use Rattle.df_model.specs.Values.{Bytes}
 use Rattle.df_model.specs.Ranges as ranges
 use Rattle.df_model.specs.Outcomes.{bulks}
@@ -13,7 +12,6 @@ use Rattle.df_model.proofs.EncodingLaws.{bulks_is}
 use Rattle.df_model.specs.declared.command.Side.{Side}
 use Rattle.df_model.specs.declared.command.Side.TheVariants.{Left, Right}
 use Rattle.df_lists.specs.Ends.{from_end}
-use Rattle.std.proofs.lemmas.List.{length-reverse}
 
 abbrev pub bulk_bytes : Bytes → Bytes
 bulk_bytes bytes = encoding_of (Bulk bytes)
@@ -65,12 +63,6 @@ range_next i (suc n) [] x within at = cc
 range_next zero (suc n) (y ∷ ys) x within at = ap (λ z. z ∷ take n ys) (let e : Some y ≡ Some x = at in cc)
 range_next (suc i) (suc n) (y ∷ ys) x within at = range_next i n ys x (omega arith) at
 
-range_past : (i stop : ℕ) (xs : List Bytes) → stop ≤ i → drop i (take stop xs) ≡ []
-range_past i zero xs past = drop-nil {A = Bytes} i
-range_past zero (suc n) xs past = absurd (omega arith)
-range_past (suc i) (suc n) [] past = refl
-range_past (suc i) (suc n) (x ∷ xs) past = range_past i n xs (omega arith)
-
 pub range_starts : (pieces : Bytes) (start stop : ℕ) (xs : List Bytes) → stop ≤ length xs → pieces ≡ codes "*" ++ decimal (stop - start) ++ crlf
     → pieces ++ flat_map bulk_bytes (drop start (take stop xs)) ≡ encoding_of (bulks (drop start (take stop xs)))
 range_starts pieces start stop xs within head =
@@ -87,10 +79,6 @@ range_goes pieces next whole i stop xs x within at made so_far =
     ∙ append_assoc pieces (bulk_bytes x) (flat_map bulk_bytes (drop (suc i) (take stop xs)))
     ∙ ap (λ ys. pieces ++ flat_map bulk_bytes ys) (sym (range_next i stop xs x within at))
     ∙ so_far
-
-pub range_done : (pieces whole : Bytes) (i stop : ℕ) (xs : List Bytes) → stop ≤ i → pieces ++ flat_map bulk_bytes (drop i (take stop xs)) ≡ whole → pieces ≡ whole
-range_done pieces whole i stop xs past so_far =
-    sym (ap (λ ys. pieces ++ flat_map bulk_bytes ys) (range_past i stop xs past) ∙ append-nil pieces) ∙ so_far
 
 pub get_within : (i : ℕ) (xs : List Bytes) → i < length xs → slice_get xs i ≡ None → ⊥
 get_within i [] within none = omega arith

@@ -1,11 +1,10 @@
 -- How many elements a removal takes, and what it leaves.
 use Rattle.std.proofs.Common.{◌≡◌, ℕ, zero, suc, ◌+◌, ◌-◌, ◌<◌, ◌≤◌, true, false, if◌then◌else◌, List, [], ◌∷◌, length, reverse, drop, refl, sym, ap, ◌∙◌, arith}
-use Rattle.std.specs.Prelude.{ℤ, pos, negsuc}
+use Rattle.std.specs.Prelude.{ℤ, pos, negsuc, Some}
 use Rattle.std.proofs.lemmas.List.{length-reverse, length-drop, reverse-reverse}
 use Rattle.df_model.specs.Values.{Bytes}
 use Rattle.df_model.specs.Words.{same}
 use Rattle.df_model.specs.Meaning.Lists.{without_first, without, lrem, ltrim, stored}
-use Rattle.std.specs.Prelude.{Some}
 use Rattle.df_model.specs.Spared.{Spared}
 use Rattle.df_model.specs.Ranges as ranges
 use Rattle.df_model.specs.Outcomes.{count, ok}
