@@ -1,31 +1,19 @@
 -- What a request is answered, from the rows of the commands.
-use Rattle.std.proofs.Common.{◌≡◌, inl, inr, true, false, cond, [], ◌∷◌, ◌++◌, refl, sym, ap, subst, ◌∙◌}
-use Rattle.std.specs.Prelude.{Option, Some, None}
-use Rattle.std.specs.Ordering.{nat_cmp, is_eq}
-use Rattle.std.specs.declared.cmp.Ordering.{Ordering}
-use Rattle.std.specs.declared.cmp.Ordering.TheVariants.{Less, Equal, Greater}
-use Rattle.std.specs.Cmp.Lexicographic.{slice_cmp, nat_list_cmp_total}
-use Rattle.std.specs.FinMap.{get-insert, get-remove, same_map, slice_cmp-IsAntisymmetric, nat_cmp-IsAntisymmetric}
-use Rattle.df_model.specs.Values.{Bytes, Value}
-use Rattle.df_model.specs.Words.{Words}
-use Rattle.df_model.specs.Keyspace.{Keyspace, held, with_held}
+use Rattle.std.proofs.Common.{◌≡◌, inl, inr, true, false, [], ◌∷◌, ◌++◌, refl, sym, ap, ◌∙◌}
+use Rattle.df_model.specs.Values.{Bytes}
+use Rattle.df_model.specs.Keyspace.{Keyspace}
 use Rattle.df_model.specs.Reads.{Reading}
-use Rattle.df_model.specs.Outcomes.{Outcome, Change, ok, settled}
+use Rattle.df_model.specs.Outcomes.{ok}
 use Rattle.df_model.specs.Meaning.{meaning}
-use Rattle.df_model.specs.Meaning.Strings as strings
 use Rattle.df_model.specs.Replies.{encoding_of}
 use Rattle.df_model.specs.Session.{Given, given, heard_as, ready_step}
-use Rattle.df_model.proofs.LocalityLaws.{reads_one, writes_one}
-use Rattle.df_model.specs.declared.command.OneOp.TheVariants.{Get, Set}
-use Rattle.df_model.specs.declared.command.Guard.{Guard}
-use Rattle.df_model.specs.declared.command.Guard.TheVariants.{Always, Nx, Xx}
 use Rattle.df_model.specs.declared.command.WholeOp.TheVariants as wholes
 use Rattle.df_model.specs.declared.command.Command.{Command}
 use Rattle.df_model.specs.declared.command.Command.TheVariants.{Plain, One, Many, Whole, Wrong}
 use Rattle.df_model.specs.declared.reply.ErrorText.TheVariants as errors
-use Rattle.df_model.specs.declared.reply.Reply.TheVariants.{Error, NullBulk}
+use Rattle.df_model.specs.declared.reply.Reply.TheVariants.{Error}
 use Rattle.df_server.specs.Answers.{Answers, Replied}
-use Rattle.df_server.specs.Responses.{response, Gives, guard_allows}
+use Rattle.df_server.specs.Responses.{response, Gives}
 
 -- ---- requests
 

@@ -1,15 +1,13 @@
 -- Lists that are taken out of the table, and what LMOVE makes of them.
-use Rattle.std.proofs.Common.{◌≡◌, ℕ, ◌<◌, Bool, true, false, cond, List, [], ◌∷◌, ◌++◌, length, reverse, refl, sym, ap, subst, ◌∙◌, arith}
+use Rattle.std.proofs.Common.{◌≡◌, ◌<◌, Bool, true, false, cond, List, [], ◌∷◌, length, reverse, refl, sym, ap, subst, ◌∙◌, arith}
 use Rattle.std.specs.Prelude.{Option, Some, None, is_some}
 use Rattle.std.proofs.lemmas.List.{length-reverse, reverse-reverse}
 use Rattle.std.specs.Cmp.Lexicographic.{texts_ties}
 use Rattle.df_model.specs.Values.{Bytes, Value}
 use Rattle.df_model.specs.Words.{same}
 use Rattle.df_model.specs.Keyspace.{Keyspace, held, with_held}
-use Rattle.df_model.specs.Access.{Meaning}
-use Rattle.df_model.specs.Outcomes.{Change, settled}
+use Rattle.df_model.specs.Outcomes.{settled}
 use Rattle.df_model.specs.Meaning.Lists.{lmove, sent, leaves, received, elements, stored, taken, given}
-use Rattle.df_model.specs.Replies.{encoding_of}
 use Rattle.df_model.specs.declared.command.Side.{Side}
 use Rattle.df_model.specs.declared.command.Side.TheVariants.{Left, Right}
 use Rattle.df_model.specs.declared.reply.ErrorText.TheVariants.{WrongKind}

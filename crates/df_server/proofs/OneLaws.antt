@@ -1,25 +1,23 @@
 -- A command of one key, from its row to the keyspace.
 use Rattle.std.proofs.Common.{◌≡◌, Bool, true, false, cond, ◌++◌, refl, sym, ap, subst, ◌∙◌}
-use Rattle.std.specs.Prelude.{Option, Some, None, is_some, IsTrue}
-use Rattle.std.specs.Option.{option_map}
-use Rattle.std.specs.Map.{lookup}
+use Rattle.std.specs.Prelude.{Option, Some, None}
 use Rattle.df_model.specs.Values.{Bytes}
 use Rattle.df_model.specs.Values as plain
 use Rattle.df_model.specs.Words.{same}
 use Rattle.df_model.specs.Keyspace.{Keyspace, held, with_held}
-use Rattle.df_model.specs.Access.{Meaning, does, on_key}
-use Rattle.df_model.specs.Outcomes.{KeyRow, Outcome, outcome, settled}
+use Rattle.df_model.specs.Access.{does, on_key}
+use Rattle.df_model.specs.Outcomes.{KeyRow, outcome, settled}
 use Rattle.df_model.specs.Replies.{encoding_of}
 use Rattle.df_model.proofs.LocalityLaws.{tied, held_with, reads_one, writes_one}
 use Rattle.df_model.proofs.WholeLaws.{same_map_by, tied_bytes}
 use Rattle.df_values.specs.Seen.{seen}
-use Rattle.df_values.specs.Edits.{applied, Fits, Alters}
+use Rattle.df_values.specs.Edits.{applied, Fits}
 use Rattle.df_values.specs.Prepares.{Gives as Prepares}
 use Rattle.df_values.specs.declared.value.Value.{Value}
 use Rattle.df_values.specs.declared.change.Change.{Change}
 use Rattle.df_values.specs.declared.change.Change.TheVariants as changes
 use Rattle.df_values.specs.declared.change.Prepared.{Prepared}
-use Rattle.df_server.specs.Fates.{IsLeft, IsLeftAt, Ran, RanAt}
+use Rattle.df_server.specs.Fates.{Ran, RanAt}
 use Rattle.df_server.specs.Responses.{Gives}
 use Rattle.df_server.specs.declared.one.Fate.{Fate}
 use Rattle.df_server.specs.declared.one.Fate.TheVariants.{Stays, Goes}

@@ -1,6 +1,6 @@
 -- Sets that are taken out of the table, and what SMOVE makes of them.
 use Rattle.std.proofs.Common.{◌≡◌, Bool, true, false, cond, refl, sym, ap, subst, ◌∙◌}
-use Rattle.std.specs.Prelude.{Option, Some, None, is_some, if◌then◌else◌, ◌==◌, ◌++◌}
+use Rattle.std.specs.Prelude.{Option, Some, None, is_some, if◌then◌else◌, ◌==◌}
 use Rattle.std.proofs.lemmas.Bool.{ne_eqb}
 use Rattle.std.specs.Ordering.{is_eq, nat_cmp}
 use Rattle.std.specs.Cmp.{tied_itself}
@@ -13,7 +13,6 @@ use Rattle.df_model.specs.Members as members
 use Rattle.df_model.specs.Outcomes as outcomes
 use Rattle.df_model.specs.Outcomes.{count, settled}
 use Rattle.df_model.specs.Meaning.Sets.{smove, left, joined, members_of, stored}
-use Rattle.df_model.specs.Replies.{encoding_of}
 use Rattle.df_server.specs.Joined.{Has, Joins, put_as}
 use Rattle.df_server.specs.Responses.{Gives}
 use Rattle.df_server.proofs.OneLaws.{put_back}

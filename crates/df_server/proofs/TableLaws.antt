@@ -1,16 +1,16 @@
 -- The keyspace that entries make: what a key holds in it, what a change of one entry does to it, and its size.
-use Rattle.std.proofs.Common.{◌≡◌, ℕ, ◌+◌, Bool, true, false, cond, List, [], ◌∷◌, length, map, refl, sym, ap, ◌∙◌, arith}
-use Rattle.std.specs.Prelude.{Option, Some, None, is_some, nat_eq}
+use Rattle.std.proofs.Common.{◌≡◌, ◌+◌, Bool, true, false, cond, List, [], ◌∷◌, length, map, refl, sym, ap, ◌∙◌, arith}
+use Rattle.std.specs.Prelude.{Option, Some, None, is_some}
 use Rattle.std.specs.Option.{option_map}
 use Rattle.std.specs.List.{IsDistinct, AllByRecursion}
 use Rattle.std.specs.Map.{lookup, keys_of}
 use Rattle.std.specs.Ordering.{nat_cmp}
-use Rattle.std.specs.Cmp.Lexicographic.{slice_cmp, pointwise, nat_list_cmp_total, texts_ties}
+use Rattle.std.specs.Cmp.Lexicographic.{slice_cmp, nat_list_cmp_total, texts_ties}
 use Rattle.std.specs.FinMap.{find, get-from_entries, len-empty, len-insert}
 use Rattle.std.specs.FinMap as fin
 use Rattle.df_model.specs.Values.{Bytes, Value}
 use Rattle.df_model.specs.Words.{same}
-use Rattle.df_model.specs.Keyspace.{Keyspace, held, with_held}
+use Rattle.df_model.specs.Keyspace.{held, with_held}
 use Rattle.df_model.proofs.LocalityLaws.{tied, held_with}
 use Rattle.df_model.proofs.WholeLaws.{same_map_by, tied_is_same}
 use Rattle.df_server.specs.Tables.{keyspace_of}

@@ -1,4 +1,4 @@
-use Rattle.std.proofs.Common.{◌≡◌, Bool, false, List, [], ◌∷◌, refl, ap, ◌∙◌, rules}
+use Rattle.std.proofs.Common.{◌≡◌, Bool, false, List, [], ◌∷◌, refl, rules}
 use Rattle.std.specs.Prelude.{Option, Some, IsTrue, ◌↔◌}
 use Rattle.std.specs.Option.{option_map, option_copied}
 use Rattle.df_model.specs.Values.{Bytes, Value}

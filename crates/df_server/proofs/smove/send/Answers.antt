@@ -1,7 +1,7 @@
 use Rattle.std.proofs.Common.{◌≡◌, false, subst, sym, ap, ◌∙◌}
-use Rattle.std.specs.Prelude.{Some, None, is_some, IsTrue}
+use Rattle.std.specs.Prelude.{None, is_some, IsTrue}
 use Rattle.std.proofs.lemmas.Result.{on_ok_weaker, on_err_weaker}
-use Rattle.df_model.specs.Keyspace.{held, with_held}
+use Rattle.df_model.specs.Keyspace.{held}
 use Rattle.df_model.specs.Meaning.Sets.{members_of}
 use Rattle.df_server.specs.Joined.{Joins, put_as}
 use Rattle.df_server.proofs.ListLaws.{stays, free_source, free_destination, put_both, both_back}

@@ -1,4 +1,4 @@
-use Rattle.std.proofs.Common.{◌≡◌, ◌++◌, subst}
+use Rattle.std.proofs.Common.{◌++◌, subst}
 use Rattle.df_model.specs.Session.{State, session_step}
 use Rattle.df_resp.specs.Next.{Gives}
 use Rattle.df_resp.specs.declared.reader.Next.TheVariants as next

@@ -6,10 +6,8 @@ use Rattle.std.proofs.lemmas.Result.{IfOk-weaker, on_err_weaker}
 use Rattle.df_model.specs.Words.{same}
 use Rattle.df_model.specs.Keyspace.{held, with_held}
 use Rattle.df_model.specs.Meaning.{one}
-use Rattle.df_model.specs.Outcomes.{outcome}
 use Rattle.df_values.specs.Seen.{seen}
 use Rattle.df_values.specs.declared.value.Value.{Value}
-use Rattle.df_server.specs.Fates.{Ran, RanAt}
 use Rattle.df_server.specs.Tables.{keyspace_of}
 use Rattle.df_server.proofs.TableLaws.{held_entry, entry_changed}
 use Rattle.df_server.proofs.OneLaws.{ran_at, put_back}

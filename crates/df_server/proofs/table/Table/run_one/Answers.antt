@@ -1,6 +1,4 @@
 use Rattle.std.proofs.Common.{subst, sym, ap, ◌∙◌}
-use Rattle.std.specs.Prelude.{None}
-use Rattle.df_model.specs.Keyspace.{with_held}
 use Rattle.df_model.specs.Access.{does, on_key}
 use Rattle.df_model.specs.Meaning.{one}
 use Rattle.df_server.specs.Fates.{RanAt}
