@@ -121,4 +121,3 @@ footprint_of_commands shards s commands =
 -- what a call asks for on a shard, if anything; there is no shard past the last
 abbrev pub footprint_of : ℕ → Call → ℕ → Option Keys
 footprint_of shards call s = cond (nat_lt s shards) (footprint_of_commands shards s (commands_of call)) None
-

@@ -1,0 +1,2 @@
+//! The serial order law.
+#![tactic(auto)]

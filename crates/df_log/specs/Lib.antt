@@ -1,0 +1,4 @@
+pub mod Acts
+pub mod Changes
+pub mod Parts
+pub mod Entries
