@@ -38,7 +38,7 @@ or_none : (x w : Option Value) → w ≡ None → or_else x w ≡ x
 or_none None w e = e
 or_none (Some v) w e = refl
 
-held_own : (shards s : ℕ) (K : Keyspace) (key : Bytes) → held (own_keys shards s K) key ≡ cond (shard_of key shards == s) (held K key) None
+pub held_own : (shards s : ℕ) (K : Keyspace) (key : Bytes) → held (own_keys shards s K) key ≡ cond (shard_of key shards == s) (held K key) None
 held_own shards s K key = get-retain_keys K (λ k. shard_of k shards == s) key (λ x e. ap (λ k. shard_of k shards == s) (sym (same_bytes key x e)))
 
 module _ (shards : ℕ) (parts : ℕ → Part) (key : Bytes) where

@@ -5,3 +5,6 @@ pub mod Due
 pub mod Done
 pub mod Belongs
 pub mod Joined
+pub mod Calls
+pub mod History
+pub mod Laws

@@ -1,0 +1,6 @@
+pub mod Lists
+pub mod Puts
+pub mod Commute
+pub mod LogsAlone
+pub mod ShardKept
+pub mod CounterLaws
