@@ -9,14 +9,12 @@ use Rattle.df_model.specs.Framing.{IsRequest}
 use Rattle.df_model.specs.Session.{State, Step, Heard, Given, Control, ControlShape, ControlRow, controls, shutdown, heard, heard_as, heard_counted, heard_by, given, machine, ready_step, queueing_step, append, execute, session_step, without_memory, MAX_QUEUED}
 use Rattle.df_model.specs.Calls.{HasWords, MayQueue, IsCall}
 use Rattle.df_model.specs.History.{Item}
-use Rattle.df_model.specs.Output.{Walk, SessionOutput}
+use Rattle.df_model.specs.Output.{Walk}
 use Rattle.df_model.specs.Laws.{SessionsCall}
 use Rattle.df_model.proofs.WordLaws.{reads_keep}
 use Rattle.df_model.specs.declared.session.Why.{Why}
 use Rattle.df_model.specs.declared.command.Command.{Command}
 use Rattle.df_model.specs.declared.command.Command.TheVariants.{Plain, One, Many, Whole, Wrong}
-use Rattle.df_model.specs.declared.command.Call.{Call}
-use Rattle.df_model.specs.declared.command.Call.TheVariants.{Single, Exec}
 use Rattle.df_model.specs.declared.reply.ErrorText.TheVariants as errors
 use Rattle.df_model.specs.declared.reply.Reply.{Reply}
 use Rattle.df_model.specs.declared.reply.Reply.TheVariants.{Error}

@@ -11,7 +11,7 @@ use Rattle.df_model.specs.Replies.{crlf, text_of, encoding_step, encoding_of}
 use Rattle.df_model.specs.declared.reply.ErrorText.{ErrorText}
 use Rattle.df_model.specs.declared.reply.Reply.{Reply, fold-roll-Reply}
 use Rattle.df_model.specs.declared.reply.Reply.TheOpen.{Reply-F}
-use Rattle.df_model.specs.declared.reply.Reply.TheVariants.{Simple, Error, Int, Bulk, NullBulk, NullArray, Array, rolls-Simple, rolls-Error, rolls-Int, rolls-Bulk, rolls-NullBulk, rolls-NullArray, rolls-Array}
+use Rattle.df_model.specs.declared.reply.Reply.TheVariants.{Simple, Error, Int, Bulk, NullBulk, NullArray, rolls-Simple, rolls-Error, rolls-Int, rolls-Bulk, rolls-NullBulk, rolls-NullArray, rolls-Array}
 
 pub simple_is : (text : Bytes) → encoding_of (Simple text) ≡ codes "+" ++ text ++ crlf
 simple_is text = ap encoding_of (sym (rolls-Simple text)) ∙ fold-roll-Reply Bytes encoding_step _

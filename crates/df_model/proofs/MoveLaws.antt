@@ -1,12 +1,11 @@
 -- Rows that move an element or a member from one key to another may be run on the whole keyspace.
-use Rattle.std.proofs.Common.{◌≡◌, Bool, true, false, cond, List, [], ◌∷◌, refl, sym, ap, subst, ◌∙◌}
-use Rattle.std.specs.Prelude.{Option, Some, None, ◌||◌, if◌then◌else◌, nat_eq}
-use Rattle.std.specs.Cmp.Lexicographic.{pointwise}
+use Rattle.std.proofs.Common.{◌≡◌, Bool, true, false, List, [], ◌∷◌, refl, ap, subst, ◌∙◌}
+use Rattle.std.specs.Prelude.{Option, Some, None, ◌||◌, if◌then◌else◌}
 use Rattle.df_model.specs.Values.{Bytes, Value, Members}
 use Rattle.df_model.specs.Words.{same}
 use Rattle.df_model.specs.Keyspace.{Keyspace, held, with_held}
 use Rattle.df_model.specs.Access.{Meaning, among, does, changing, with_change}
-use Rattle.df_model.specs.Outcomes.{Change, count, settled}
+use Rattle.df_model.specs.Outcomes.{Change, settled}
 use Rattle.df_model.specs.Members as members
 use Rattle.df_model.specs.Meaning.Lists as lists
 use Rattle.df_model.specs.Meaning.Sets as sets

@@ -1,10 +1,10 @@
 -- Rows that combine sets, and those that put the result under a key of its own, may be run on the whole keyspace.
-use Rattle.std.proofs.Common.{◌≡◌, Bool, true, false, cond, List, [], ◌∷◌, ◌++◌, refl, sym, ap, ◌∙◌}
-use Rattle.std.specs.Prelude.{Option, Some, None, ◌||◌, nat_eq}
-use Rattle.df_model.specs.Values.{Bytes, Value, Members}
+use Rattle.std.proofs.Common.{◌≡◌, Bool, true, false, List, [], ◌∷◌, ◌++◌, refl, sym, ap, ◌∙◌}
+use Rattle.std.specs.Prelude.{Option, Some, None, ◌||◌}
+use Rattle.df_model.specs.Values.{Bytes, Members}
 use Rattle.df_model.specs.Words.{same}
-use Rattle.df_model.specs.Keyspace.{Keyspace, held, with_held}
-use Rattle.df_model.specs.Access.{Meaning, among, part, taken_over, does, looking, with_change}
+use Rattle.df_model.specs.Keyspace.{Keyspace, held}
+use Rattle.df_model.specs.Access.{Meaning, among, part, taken_over, does, looking}
 use Rattle.df_model.specs.Meaning.{storing}
 use Rattle.df_model.specs.Meaning.Sets as sets
 use Rattle.df_model.proofs.LocalityLaws.{held_taken_over, front_of}

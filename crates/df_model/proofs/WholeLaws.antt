@@ -1,24 +1,21 @@
 -- A row of several keys that looks at no others may be run on the whole keyspace: there it gives the same reply and
 -- leaves the same, so that nothing has to be cut out of the keyspace and put back.
-use Rattle.std.proofs.Common.{◌≡◌, ◌⊎◌, inl, inr, ℕ, ◌+◌, ◌-◌, Bool, true, false, cond, List, [], ◌∷◌, ◌++◌, map, refl, sym, ap, subst, ◌∙◌, arith, append-nil}
-use Rattle.std.specs.Prelude.{Option, Some, None, ◌||◌, nat_eq, is_some}
-use Rattle.std.proofs.lemmas.Bool.{cases_Bool}
-use Rattle.std.specs.Ordering.{nat_cmp, is_eq}
+use Rattle.std.proofs.Common.{◌≡◌, ℕ, ◌+◌, ◌-◌, Bool, true, false, cond, List, [], ◌∷◌, ◌++◌, map, refl, sym, ap, subst, ◌∙◌, arith, append-nil}
+use Rattle.std.specs.Prelude.{Option, Some, None, ◌||◌, is_some}
+use Rattle.std.specs.Ordering.{is_eq}
 use Rattle.std.specs.Cmp.{eq_by_cmp_equiv, tied_itself}
-use Rattle.std.specs.Cmp.Lexicographic.{pointwise, nat_list_cmp_total, texts_ties}
+use Rattle.std.specs.Cmp.Lexicographic.{nat_list_cmp_total, texts_ties}
 use Rattle.std.specs.FinMap.{len-insert, len-remove, same_map, slice_cmp-IsAntisymmetric, nat_cmp-IsAntisymmetric}
 use Rattle.std.specs.FinMap as fin
 use Rattle.df_model.specs.Values.{Bytes, Value}
 use Rattle.df_model.specs.Words.{same}
 use Rattle.df_model.specs.Keyspace.{Keyspace, held, with_held}
 use Rattle.df_model.specs.Outcomes.{ok, count, array}
-use Rattle.df_model.specs.Access.{Access, Meaning, names, among, part, taken_over, does, looking, changing}
-use Rattle.df_model.specs.Meaning.{meaning, firsts}
+use Rattle.df_model.specs.Access.{Meaning, among, part, taken_over, does, looking, changing}
+use Rattle.df_model.specs.Meaning.{firsts}
 use Rattle.df_model.specs.Meaning.Any as any
 use Rattle.df_model.specs.Meaning.Strings as strings
 use Rattle.df_model.specs.declared.reply.Reply.{Reply}
-use Rattle.df_model.specs.declared.reply.ErrorText.TheVariants.{NoSuchKey}
-use Rattle.df_model.specs.declared.reply.Reply.TheVariants.{Error}
 use Rattle.df_model.proofs.LocalityLaws.{tied, held_with, held_part, held_taken_over, equal, same_bytes, same_itself}
 
 -- ---- keyspaces that agree at some keys

@@ -1,5 +1,5 @@
 -- The rows of the command table make commands of the words that they are given: none of a command's words is longer.
-use Rattle.std.proofs.Common.{◌≡◌, Bool, true, false, cond, List, [], ◌∷◌, ◌++◌, refl, ap, subst}
+use Rattle.std.proofs.Common.{◌≡◌, Bool, true, false, cond, List, [], ◌∷◌, ◌++◌, ap, subst}
 use Rattle.std.specs.Prelude.{Option, Some, None, ℤ}
 use Rattle.std.specs.List.{AllByRecursion}
 use Rattle.df_model.specs.Values.{Bytes}
@@ -7,7 +7,7 @@ use Rattle.df_model.specs.Spared.{Spared, all_of}
 use Rattle.df_model.specs.Numbers.{signed}
 use Rattle.df_model.specs.Words.{Words, is_name}
 use Rattle.df_model.specs.Reads.{Reading, reads, reads_by, rows, from_hashes, from_lists, from_sets, from_any, from_keyless, counted}
-use Rattle.df_model.specs.Reads.Shapes.{Row, Shape, alone, ping, one_word, number, number_in, not_negative, database, select, flush, key, key_word, key_words, key_number, by_numbers, key_numbers, by_number_word, key_number_word, by_word_number, key_word_number, key_many, setrange, pop, set_by, guards, set, linsert_by, beside_of, linsert, lmove_by, side_of, lmove, with_pair, in_pairs, pairs_of, by_pairs, key_pairs, keys, key_keys, two_keys, two_keys_word, pairs}
+use Rattle.df_model.specs.Reads.Shapes.{Row, Shape, alone, ping, one_word, number, number_in, not_negative, database, select, flush, key, key_word, key_words, key_number, key_numbers, key_number_word, key_word_number, key_many, setrange, pop, set_by, guards, set, linsert_by, beside_of, linsert, lmove_by, side_of, lmove, with_pair, in_pairs, pairs_of, key_pairs, keys, key_keys, two_keys, two_keys_word, pairs}
 use Rattle.df_model.specs.Reads.Keyless as keyless_rows
 use Rattle.df_model.specs.Reads.Any as any_rows
 use Rattle.df_model.specs.Reads.Strings as string_rows

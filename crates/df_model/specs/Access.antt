@@ -1,6 +1,5 @@
 -- What a command does to the keys that it names: it sees the keyspace at these keys alone, and changes no other.
-use Rattle.std.specs.Prelude.{Bool, ◌||◌, false, nat_eq, List, [], ◌∷◌, ◌++◌}
-use Rattle.std.specs.Cmp.Lexicographic.{pointwise}
+use Rattle.std.specs.Prelude.{Bool, ◌||◌, false, List, [], ◌∷◌, ◌++◌}
 use Rattle.std.specs.FinMap as map
 use Rattle.df_model.specs.Values.{Bytes}
 use Rattle.df_model.specs.Keyspace.{Keyspace, held, with_held}

@@ -1,5 +1,5 @@
 -- Statements of laws.
-use Rattle.std.specs.Prelude.{◌≡◌, ◌≤◌, List, length, true, false}
+use Rattle.std.specs.Prelude.{◌≡◌, List, true, false}
 use Rattle.std.specs.List.{AllByRecursion}
 use Rattle.df_model.specs.Values.{Bytes}
 use Rattle.df_model.specs.Keyspace.{Keyspace, held}

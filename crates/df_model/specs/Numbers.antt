@@ -1,5 +1,5 @@
 -- Canonical decimals: `0`, or a digit from 1 to 9 and further digits; where signed, also `-` and one of these but `0`.
-use Rattle.std.specs.Prelude.{ℕ, ◌+◌, ◌-◌, ◌*◌, ◌^◌, List, [], ◌∷◌, Option, Some, None, Bool, ◌&&◌, leb, ltb, eqb, if◌then◌else◌, ℤ, pos, negsuc, neg_ℤ}
+use Rattle.std.specs.Prelude.{ℕ, ◌+◌, ◌-◌, ◌*◌, ◌^◌, [], ◌∷◌, Option, Some, None, Bool, ◌&&◌, leb, ltb, eqb, if◌then◌else◌, ℤ, pos, negsuc, neg_ℤ}
 use Rattle.df_model.specs.Values.{Bytes}
 
 abbrev pub is_digit : ℕ → Bool

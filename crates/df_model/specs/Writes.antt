@@ -1,7 +1,7 @@
 -- How a byte string is hashed by the maps of std: all its bytes in one write. Equal ones make equal writes.
 use Rattle.std.specs.Prelude.{◌≡◌, List, [], ◌∷◌, IsTrue, nat_eq}
 use Rattle.std.specs.Cmp.Lexicographic.{pointwise}
-use Rattle.std.proofs.Common.{ap, rules}
+use Rattle.std.proofs.Common.{ap}
 use Rattle.std.proofs.lemmas.Slice.Eq.{bytes_eq-Decides}
 use Rattle.df_model.specs.Values.{Bytes}
 

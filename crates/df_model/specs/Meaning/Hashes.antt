@@ -1,5 +1,5 @@
 -- Commands on hashes, a row each: from the fields (none where the key is missing) to the reply and what becomes of the key.
-use Rattle.std.specs.Prelude.{ℕ, ◌-◌, ◌==◌, Bool, if◌then◌else◌, Option, Some, None, List, [], ◌∷◌, map, length, ℤ, pos, ◌+ℤ◌, is_some}
+use Rattle.std.specs.Prelude.{ℕ, ◌-◌, ◌==◌, if◌then◌else◌, Option, Some, None, List, [], ◌∷◌, map, length, ℤ, ◌+ℤ◌}
 use Rattle.std.specs.List.{flat_map}
 use Rattle.std.specs.FinMap as fields
 use Rattle.std.specs.Fmt.{signed_decimal}
@@ -8,7 +8,7 @@ use Rattle.df_model.specs.Outcomes.{Change, Outcome, ok, count, bulk_or_null, ar
 use Rattle.df_model.specs.Numbers.{counter, fits}
 use Rattle.df_model.specs.declared.reply.ErrorText.TheVariants as errors
 use Rattle.df_model.specs.declared.reply.Reply.{Reply}
-use Rattle.df_model.specs.declared.reply.Reply.TheVariants.{Int, Error, Bulk, NullBulk, Array}
+use Rattle.df_model.specs.declared.reply.Reply.TheVariants.{Int, Error}
 
 -- a hash that loses its last field is removed
 abbrev pub stored : Fields → Change

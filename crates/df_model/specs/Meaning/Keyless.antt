@@ -1,5 +1,5 @@
 -- Commands without a key, and commands of the whole keyspace, a row each. SAVE stands in Calls.
-use Rattle.std.specs.Prelude.{List, Option, Some, None, codes}
+use Rattle.std.specs.Prelude.{Option, Some, None, codes}
 use Rattle.std.specs.List.{filter}
 use Rattle.std.specs.FinMap as map
 use Rattle.df_model.specs.Values.{Bytes}

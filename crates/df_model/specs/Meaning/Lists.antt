@@ -1,11 +1,11 @@
 -- Commands on lists, a row each: from the elements ([] where the key is missing) to the reply and what becomes of the key.
-use Rattle.std.specs.Prelude.{ℕ, zero, suc, ◌-◌, Bool, if◌then◌else◌, cond, nat_eq, Option, Some, None, List, [], ◌∷◌, ◌++◌, reverse, map, length, take, drop, slice_get, slice_set, ℤ, pos, negsuc, nat_abs}
+use Rattle.std.specs.Prelude.{ℕ, zero, suc, ◌-◌, if◌then◌else◌, Option, Some, None, List, [], ◌∷◌, ◌++◌, reverse, length, take, drop, slice_get, slice_set, ℤ, pos, negsuc, nat_abs}
 use Rattle.std.specs.List.{filter}
 use Rattle.std.specs.Prelude.{not}
 use Rattle.df_model.specs.Values.{Bytes, Value}
 use Rattle.df_model.specs.Outcomes.{Change, Outcome, ok, count, bulk_or_null, bulks, refused}
 use Rattle.df_model.specs.Words.{same}
-use Rattle.df_model.specs.Keyspace.{Keyspace, held, with_held}
+use Rattle.df_model.specs.Keyspace.{Keyspace, held}
 use Rattle.df_model.specs.Access.{Meaning, with_change}
 use Rattle.df_model.specs.Ranges.{place, ranged}
 use Rattle.df_model.specs.declared.command.Beside.{Beside}
@@ -14,7 +14,7 @@ use Rattle.df_model.specs.declared.command.Side.{Side}
 use Rattle.df_model.specs.declared.command.Side.TheVariants.{Left, Right}
 use Rattle.df_model.specs.declared.reply.ErrorText.TheVariants as errors
 use Rattle.df_model.specs.declared.reply.Reply.{Reply}
-use Rattle.df_model.specs.declared.reply.Reply.TheVariants.{Int, Error, Bulk, NullBulk, NullArray, Array}
+use Rattle.df_model.specs.declared.reply.Reply.TheVariants.{Int, Error, Bulk, NullBulk, NullArray}
 
 -- a list that loses its last element is removed
 abbrev pub stored : List Bytes → Change

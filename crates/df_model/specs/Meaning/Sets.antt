@@ -1,14 +1,14 @@
 -- Commands on sets, a row each: from the members (none where the key is missing) to the reply and what becomes of the key.
-use Rattle.std.specs.Prelude.{ℕ, ◌-◌, ◌==◌, Bool, if◌then◌else◌, Option, Some, None, List, [], ◌∷◌, map, length}
+use Rattle.std.specs.Prelude.{◌-◌, ◌==◌, if◌then◌else◌, Option, Some, None, List, [], ◌∷◌, map}
 use Rattle.df_model.specs.Members as members
 use Rattle.df_model.specs.Values.{Bytes, Value, Members}
 use Rattle.df_model.specs.Words.{same}
-use Rattle.df_model.specs.Keyspace.{Keyspace, held, with_held}
+use Rattle.df_model.specs.Keyspace.{Keyspace, held}
 use Rattle.df_model.specs.Access.{Meaning, with_change}
 use Rattle.df_model.specs.Outcomes.{Change, Outcome, count, array, bulks, refused}
 use Rattle.df_model.specs.declared.reply.ErrorText.TheVariants as errors
 use Rattle.df_model.specs.declared.reply.Reply.{Reply}
-use Rattle.df_model.specs.declared.reply.Reply.TheVariants.{Error, Array}
+use Rattle.df_model.specs.declared.reply.Reply.TheVariants.{Error}
 
 -- a set that loses its last member is removed
 abbrev pub stored : Members → Change

@@ -1,5 +1,5 @@
 -- Commands on strings, a row each: from what the key holds to the reply and what becomes of the key.
-use Rattle.std.specs.Prelude.{ℕ, ◌+◌, ◌-◌, ◌^◌, ◌||◌, nat_lt, eqb, if◌then◌else◌, Bool, false, Option, Some, None, is_some, List, [], ◌∷◌, ◌++◌, map, length, take, drop, replicate, ℤ, pos, negsuc, nat_abs, ◌+ℤ◌, neg_ℤ}
+use Rattle.std.specs.Prelude.{ℕ, ◌+◌, ◌-◌, ◌||◌, nat_lt, if◌then◌else◌, Bool, false, Option, Some, None, is_some, List, [], ◌∷◌, ◌++◌, map, length, take, drop, replicate, ℤ, pos, negsuc, nat_abs, ◌+ℤ◌, neg_ℤ}
 use Rattle.std.specs.Fmt.{signed_decimal}
 use Rattle.std.specs.FinMap as fin
 use Rattle.df_model.specs.Values.{Bytes, Value}

@@ -1,10 +1,9 @@
 -- How the words after a name are read, a shape each: the command, or None at a wrong count of words.
-use Rattle.std.specs.Prelude.{ℕ, List, [], ◌∷◌, Option, Some, None, codes, if◌then◌else◌, ℤ, pos, int_lt, ◌||◌, eqb, nat_abs}
+use Rattle.std.specs.Prelude.{List, [], ◌∷◌, Option, Some, None, codes, if◌then◌else◌, ℤ, pos, int_lt, ◌||◌, eqb, nat_abs}
 use Rattle.df_model.specs.Values.{Bytes}
 use Rattle.df_model.specs.Words.{Words, is_name}
 use Rattle.df_model.specs.Numbers.{signed}
 use Rattle.df_model.specs.Spared.{Spared, all_of}
-use Rattle.df_model.specs.declared.command.PlainOp.{PlainOp}
 use Rattle.df_model.specs.declared.command.PlainOp.TheVariants.{Ping, Select}
 use Rattle.df_model.specs.declared.command.OneOp.{OneOp}
 use Rattle.df_model.specs.declared.command.OneOp.TheVariants.{Set, Setrange, Linsert}
