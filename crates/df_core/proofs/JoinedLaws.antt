@@ -19,7 +19,7 @@ use Rattle.df_core.specs.Joined.{with_pairs, joined_to, joined}
 pub same_keyspace : (K L : Keyspace) → ((key : Bytes) → held K key ≡ held L key) → K ≡ L
 same_keyspace K L h = same_map nat_list_cmp_total (slice_cmp-IsAntisymmetric nat_cmp-IsAntisymmetric) K L h
 
-abbrev or_else : Option Value → Option Value → Option Value
+abbrev pub or_else : Option Value → Option Value → Option Value
 or_else None w = w
 or_else (Some v) w = Some v
 
@@ -27,14 +27,14 @@ first_or : (b : Bool) (v : Value) (x w : Option Value) → cond b (Some v) (or_e
 first_or true v x w = refl
 first_or false v x w = refl
 
-held_with_pairs : (pairs : List (Bytes × Value)) (K : Keyspace) (key : Bytes) → held (with_pairs pairs K) key ≡ or_else (find (slice_cmp nat_cmp) key pairs) (held K key)
+pub held_with_pairs : (pairs : List (Bytes × Value)) (K : Keyspace) (key : Bytes) → held (with_pairs pairs K) key ≡ or_else (find (slice_cmp nat_cmp) key pairs) (held K key)
 held_with_pairs [] K key = refl
 held_with_pairs (p ∷ pairs) K key =
     held_with (with_pairs pairs K) p.0 (Some p.1) key
     ∙ ap (cond (tied key p.0) (Some p.1)) (held_with_pairs pairs K key)
     ∙ first_or (tied key p.0) p.1 (find (slice_cmp nat_cmp) key pairs) (held K key)
 
-or_none : (x w : Option Value) → w ≡ None → or_else x w ≡ x
+pub or_none : (x w : Option Value) → w ≡ None → or_else x w ≡ x
 or_none None w e = e
 or_none (Some v) w e = refl
 
@@ -50,7 +50,8 @@ module _ (shards : ℕ) (parts : ℕ → Part) (key : Bytes) where
   elsewhere : (t : ℕ) → shard_of key shards ≢ t → held (joined_to shards parts (suc t)) key ≡ held (joined_to shards parts t) key
   elsewhere t ne = step t ∙ ap (λ b. or_else (cond b (held (parts t).visible key) None) (held (joined_to shards parts t) key)) (ne_eqb (shard_of key shards) t ne)
 
-  before : (n : ℕ) → n ≤ shard_of key shards → held (joined_to shards parts n) key ≡ None
+  -- no shard below its own has it
+  pub before : (n : ℕ) → n ≤ shard_of key shards → held (joined_to shards parts n) key ≡ None
   before zero le = get-empty (slice_cmp nat_cmp) key
   before (suc t) le = elsewhere t (λ e. omega (arith, e)) ∙ before t (omega arith)
 

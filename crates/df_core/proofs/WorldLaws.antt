@@ -57,7 +57,7 @@ has_some M logs n (suc t) h = elim (or_cases (not (order.is_nil (own M n (logs t
 module _ (laws : (shards : ℕ) → 0 < shards → Laws (calls shards)) (shards : ℕ) (some : 0 < shards) (K : Keyspace) (events : List (Event (calls shards)))
     (w : World (calls shards)) (runs : Runs (calls shards) (first (calls shards) idle (part_of shards K)) events w) where
   at_first : Sound (calls shards) (part_of shards K) (first (calls shards) idle (part_of shards K))
-  at_first = first_sound (calls shards) (laws shards some) (part_of shards K) idle (unstaged shards K)
+  at_first = first_sound (calls shards) (part_of shards K) idle (unstaged shards K)
 
   sound : Sound (calls shards) (part_of shards K) w
   sound = runs_sound (calls shards) (laws shards some) (part_of shards K) events (first (calls shards) idle (part_of shards K)) w at_first runs

@@ -13,14 +13,14 @@ use Rattle.df_log.specs.Parts.{Part, effect, IsTold}
 use Rattle.df_log.specs.declared.entry.Entry.{Entry}
 use Rattle.df_core.specs.Courses.{are_quick}
 use Rattle.df_core.specs.Steps.{steps_of}
-use Rattle.df_core.specs.Due.{due}
+use Rattle.df_core.specs.Due.{IsNext}
 use Rattle.df_core.specs.Done.{Gives, marks_of}
 use Rattle.df_core.specs.Belongs.{Tells, Good}
 use Rattle.df_core.specs.Joined.{joined}
 
 -- the entry is the call's next one on the shard, after the entries that it has on each shard
-pub record IsNext (shards : ℕ) (call : Call) (entries : ℕ → List Entry) (s : ℕ) (e : Entry) : Type 0 where
-  pub due : due shards call (λ t. steps_of (entries t)) s e.hop ≡ Some e.act
+pub record ComesNext (shards : ℕ) (call : Call) (entries : ℕ → List Entry) (s : ℕ) (e : Entry) : Type 0 where
+  pub due : IsNext shards call entries s e
   -- it is an answer that such an act may have
   pub answer : (K : Keyspace) × IsTold shards s K e.act e.told
   -- the one hop of a call comes first
@@ -40,7 +40,7 @@ calls shards = record {
   effect = effect;
   Tells = Tells shards;
   Good = Good shards;
-  Next = IsNext shards;
+  Next = ComesNext shards;
   quick = λ call. are_quick shards (commands_of call);
   Slot = Changes;
   slot = λ n x. x.staged n;

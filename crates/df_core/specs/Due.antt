@@ -1,7 +1,7 @@
 -- The hops of a call that are due, by the steps that its shards have taken.
 --
 -- Command i of a call, from 0, has the hops 4i (run or read), 4i + 1 (stage), 4i + 2 (apply or clear) and 4i + 3 (unstage).
-use Rattle.std.specs.Prelude.{ℕ, zero, suc, ◌*◌, ◌/◌, ◌%◌, ◌==◌, Bool, true, false, ◌&&◌, ◌||◌, not, cond, nat_lt, length, Option, Some, None, List, [], ◌∷◌}
+use Rattle.std.specs.Prelude.{◌≡◌, ℕ, zero, suc, ◌*◌, ◌/◌, ◌%◌, ◌==◌, Bool, true, false, ◌&&◌, ◌||◌, not, cond, nat_lt, length, Option, Some, None, List, [], ◌∷◌}
 use Rattle.df_model.specs.Values.{Bytes, Value}
 use Rattle.df_model.specs.Keyspace.{Keyspace, with_held, no_keys}
 use Rattle.df_model.specs.declared.command.Command.{Command}
@@ -11,9 +11,10 @@ use Rattle.df_order.specs.Lists.{only}
 use Rattle.df_log.specs.Acts.{Act, Run, Read, Stage, Apply, Unstage, Begin, Walk, Count, Clear, Told, Ran, Values, Staged, Applied, Number, Cut, NoMemory, Refused, Handed, Replied}
 use Rattle.df_log.specs.Acts as acts
 use Rattle.df_log.specs.Parts.{did}
+use Rattle.df_log.specs.declared.entry.Entry.{Entry}
 use Rattle.df_core.specs.Courses.{Course, Nowhere, Alone, Spread, Counts, Cuts, Clears, course_of, keys_on, changes_on}
 use Rattle.df_core.specs.Courses as courses
-use Rattle.df_core.specs.Steps.{Step}
+use Rattle.df_core.specs.Steps.{Step, steps_of}
 
 -- ---- shards from 0 to below a number
 
@@ -153,3 +154,7 @@ abbrev pub due : ℕ → Call → (ℕ → List Step) → ℕ → ℕ → Option
 due shards call steps s hop =
     cond (nat_lt s shards && (all_below hop (steps s) && every (λ t. none_behind (hop / 4) (steps t)) shards))
     (due_from shards 0 (commands_of call) steps s hop) None
+
+-- the entry is of the call's next hop on shard s, after those entries that each shard has of it
+abbrev pub IsNext : ℕ → Call → (ℕ → List Entry) → ℕ → Entry → Type 0
+IsNext shards call es s e = due shards call (λ t. steps_of (es t)) s e.hop ≡ Some e.act

@@ -2,8 +2,7 @@
 use Rattle.std.proofs.Common.{◌≡◌, ◌≢◌, ℕ, zero, suc, ◌<◌, ◌≤◌, Bool, true, false, List, [], ◌∷◌, ◌++◌, inl, inr, refl, sym, ap, ◌∙◌, subst, arith, eqb}
 use Rattle.std.proofs.lemmas.Bool.{cases_lt, false≢true, eqb-true, eq-eqb, ne_eqb}
 use Rattle.std.proofs.lemmas.List.{append-nil}
-use Rattle.std.specs.Prelude.{if◌then◌else◌}
-use Rattle.df_order.specs.Lists.{Has, Chain, only}
+use Rattle.df_order.specs.Lists.{Has, Chain, cons_if, only}
 use Rattle.df_order.specs.Model.{Model, Laws, clash, own, upto, replay, FitAll, TellAll, Before, IsInOrder, Alike}
 use Rattle.df_order.proofs.Lists.{has_cases, has_only, only_has, only_append}
 
@@ -22,7 +21,10 @@ module _ (M : Model) where
 
   pub has_upto : (n : ℕ) (log : List M.Entry) (e : M.Entry) → Has (upto M n log) e → Has log e × (M.number e < n)
   has_upto zero log e h = absurd h
-  has_upto (suc n) log e h = elim (has_cases (upto M n log) (own M n log) e h) [ inl a ↦ (let r = has_upto n log e a in (r.0, omega (arith, r.1))) | inr b ↦ (let r = has_own n log e b in (r.0, omega (arith, r.1))) ]
+  has_upto (suc n) log e h = elim (has_cases (upto M n log) (own M n log) e h) [
+    | inl a ↦ (let r = has_upto n log e a in (r.0, omega (arith, r.1)))
+    | inr b ↦ (let r = has_own n log e b in (r.0, omega (arith, r.1)))
+  ]
 
   pub own_same : (n : ℕ) (e : M.Entry) (log : List M.Entry) → M.number e ≡ n → own M n (e ∷ log) ≡ e ∷ own M n log
   own_same n e log i = rw (eq-eqb (M.number e) n i)
@@ -36,7 +38,8 @@ module _ (M : Model) where
   own_more n e log i = only_append (λ f. eqb (M.number f) n) log (e ∷ []) ∙ ap (λ l. own M n log ++ l) (own_same n e [] i)
 
   pub own_no_more : (n : ℕ) (e : M.Entry) (log : List M.Entry) → M.number e ≢ n → own M n (log ++ e ∷ []) ≡ own M n log
-  own_no_more n e log ne = only_append (λ f. eqb (M.number f) n) log (e ∷ []) ∙ ap (λ l. own M n log ++ l) (own_other n e [] ne) ∙ append-nil (own M n log)
+  own_no_more n e log ne = only_append (λ f. eqb (M.number f) n) log (e ∷ []) ∙ ap (λ l. own M n log ++ l)
+      (own_other n e [] ne) ∙ append-nil (own M n log)
 
   upto_low : (n : ℕ) (e : M.Entry) (log : List M.Entry) → n ≤ M.number e → upto M n (e ∷ log) ≡ upto M n log
   upto_low zero e log h = refl
@@ -110,7 +113,10 @@ module _ (M : Model) (laws : Laws M) (calls : ℕ → M.Call) (s : ℕ) where
       ((f : M.Entry) → Has log f → Before M calls s e f) → M.number e < n → FitAll M calls s x (e ∷ upto M n log) →
       Alike M calls s x (e ∷ upto M n log) (upto M n (e ∷ log))
   settle zero x e log b l a = absurd (omega (arith, l))
-  settle (suc n) x e log b l a = elim (cases_lt (M.number e) n) [ inl lt ↦ higher lt (settle n x e log b lt) | inr ge ↦ here (omega arith) ]
+  settle (suc n) x e log b l a = elim (cases_lt (M.number e) n) [
+    | inl lt ↦ higher lt (settle n x e log b lt)
+    | inr ge ↦ here (omega arith)
+  ]
     where
       higher : M.number e < n →
           (FitAll M calls s x (e ∷ upto M n log) → Alike M calls s x (e ∷ upto M n log) (upto M n (e ∷ log))) →
@@ -120,8 +126,10 @@ module _ (M : Model) (laws : Laws M) (calls : ℕ → M.Call) (s : ℕ) where
           let ne : M.number e ≢ n = omega arith in
           subst (λ l. Alike M calls s x (e ∷ upto M n log ++ own M n log) (upto M n (e ∷ log) ++ l)) (sym (own_other M n e log ne))
           record {
-            fits = fit_append M calls s x (upto M n (e ∷ log)) (own M n log) pre.fits (subst (λ y. FitAll M calls s y (own M n log)) (sym pre.same) (fit_back M calls s x (e ∷ upto M n log) (own M n log) a));
-            same = replay_append M x (upto M n (e ∷ log)) (own M n log) ∙ ap (λ y. replay M y (own M n log)) pre.same ∙ sym (replay_append M x (e ∷ upto M n log) (own M n log));
+            fits = fit_append M calls s x (upto M n (e ∷ log)) (own M n log) pre.fits
+                (subst (λ y. FitAll M calls s y (own M n log)) (sym pre.same) (fit_back M calls s x (e ∷ upto M n log) (own M n log) a));
+            same = replay_append M x (upto M n (e ∷ log)) (own M n log) ∙ ap (λ y. replay M y (own M n log)) pre.same
+                ∙ sym (replay_append M x (e ∷ upto M n log) (own M n log));
           }
 
       here : M.number e ≡ n →
@@ -155,7 +163,8 @@ module _ (M : Model) (laws : Laws M) (calls : ℕ → M.Call) (s : ℕ) where
   kept_only keep x (e ∷ log) c a = go (keep (M.number e)) refl (kept_only keep (M.effect e x) log c.1 a.1)
     where
       go : (b : Bool) → keep (M.number e) ≡ b → FitAll M calls s (M.effect e x) (only (λ f. keep (M.number f)) log) →
-          FitAll M calls s x (if b then e ∷ only (λ f. keep (M.number f)) log else only (λ f. keep (M.number f)) log)
+          FitAll M calls s x (cons_if b e (only (λ f. keep (M.number f)) log))
       go true i r = (a.0, r)
       go false i r = erase x e (only (λ f. keep (M.number f)) log)
-          (λ f h. let k = has_only (λ g. keep (M.number g)) log f h in let ne : M.number e ≢ M.number f = λ j. false≢true (sym i ∙ ap keep j ∙ k.1) in (ne, (c.0 f k.0).by i ne)) (a.0, r)
+          (λ f h. let k = has_only (λ g. keep (M.number g)) log f h in let ne : M.number e ≢ M.number f = λ j. false≢true (sym i ∙ ap keep j ∙ k.1) in (ne, (c.0 f k.0).by i ne))
+          (a.0, r)

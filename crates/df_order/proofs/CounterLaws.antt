@@ -20,7 +20,7 @@ asks c s e = ap (λ b. if b then Some c.key else None) (eq-eqb (place c.key) s e
 asks_not : (c : Add) (s : ℕ) → place c.key ≢ s → counters.footprint c s ≡ None
 asks_not c s e = ap (λ b. if b then Some c.key else None) (ne_eqb (place c.key) s e)
 
-asked : (c : Add) (s : ℕ) → counters.footprint c s ≢ None → place c.key ≡ s
+pub asked : (c : Add) (s : ℕ) → counters.footprint c s ≢ None → place c.key ≡ s
 asked c s h = elim (eqb_tells (place c.key) s) [ inl t ↦ t.1 | inr t ↦ absurd (h (asks_not c s t.1)) ]
 
 is_asked : (c : Add) (s : ℕ) → place c.key ≡ s → counters.footprint c s ≢ None
@@ -50,7 +50,8 @@ put_twice j k a b x ne = λ i l. at l i
 -- the keys of two calls that don't conflict on a shard of both differ
 apart : (s : ℕ) (c d : Add) → conflict counters (counters.footprint c s) (counters.footprint d s) ≡ false → place c.key ≡ s → place d.key ≡ s → c.key ≢ d.key
 apart s c d free e f i =
-    false≢true (sym (sym (ap (λ o. conflict counters o (counters.footprint d s)) (asks c s e) ∙ ap (conflict counters (Some c.key)) (asks d s f)) ∙ free) ∙ eq-eqb c.key d.key i)
+    false≢true
+    (sym (sym (ap (λ o. conflict counters o (counters.footprint d s)) (asks c s e) ∙ ap (conflict counters (Some c.key)) (asks d s f)) ∙ free) ∙ eq-eqb c.key d.key i)
 
 swap : (s : ℕ) (c d : Add) (e f : Added) (x : ℕ → ℕ) → conflict counters (counters.footprint c s) (counters.footprint d s) ≡ false →
     counters.Tells s c e x → counters.Tells s d f (counters.effect e x) → Swapped counters s c d e f x
@@ -61,11 +62,14 @@ swap s c d e f x free a b =
     let both : e.add.key ≢ f.add.key = λ i. here (i ∙ ap (λ r. r.key) b.0.same) in
     record {
       first = ((b.0, b.1 ∙ ap (λ n. n + d.amount) (put_other e.add.key d.key (x e.add.key + e.add.amount) x (λ i. here (sym i)))), tt);
-      second = ((a.0, a.1 ∙ ap (λ n. n + c.amount) (sym (put_other f.add.key c.key (x f.add.key + f.add.amount) x (λ i. there (sym i))))), tt);
+      second =
+          ((a.0, a.1 ∙ ap (λ n. n + c.amount) (sym (put_other f.add.key c.key (x f.add.key + f.add.amount) x (λ i. there (sym i))))), tt);
       same =
-          ap (λ n. put f.add.key (n + f.add.amount) (counters.effect e x)) (put_other e.add.key f.add.key (x e.add.key + e.add.amount) x (λ i. both (sym i)))
+          ap (λ n. put f.add.key (n + f.add.amount) (counters.effect e x))
+          (put_other e.add.key f.add.key (x e.add.key + e.add.amount) x (λ i. both (sym i)))
           ∙ put_twice e.add.key f.add.key (x e.add.key + e.add.amount) (x f.add.key + f.add.amount) x both
-          ∙ ap (λ n. put e.add.key (n + e.add.amount) (counters.effect f x)) (sym (put_other f.add.key e.add.key (x f.add.key + f.add.amount) x both));
+          ∙ ap (λ n. put e.add.key (n + e.add.amount) (counters.effect f x))
+          (sym (put_other f.add.key e.add.key (x f.add.key + f.add.amount) x both));
     }
 
 -- one Add on its shard is one thread's
@@ -89,12 +93,16 @@ composes calls n es xs r gives fit own = (sym gives.3 ∙ tells.1, λ i k. at k 
           ∙ ap (λ u. if eqb k (calls n).key then xs (place (calls n).key) (calls n).key + (calls n).amount else xs u k) (sym t.1)
       | inr t ↦
           ap (λ l. replay counters (xs (place k)) l k) (gives.2 (place k) t.1)
-          ∙ sym (put_other (calls n).key k (xs (place (calls n).key) (calls n).key + (calls n).amount) (λ j. xs (place j) j) (λ i. t.1 (ap place i)))
+          ∙ sym
+          (put_other (calls n).key k (xs (place (calls n).key) (calls n).key + (calls n).amount) (λ j. xs (place j) j) (λ i. t.1 (ap place i)))
     ]
 
 pub counters_keep : Laws counters
 counters_keep = record {
-  meets_sym = λ k l. elim (eqb_tells k l) [ inl t ↦ t.0 ∙ sym (eq-eqb l k (sym t.1)) | inr t ↦ t.0 ∙ sym (ne_eqb l k (λ i. t.1 (sym i))) ];
+  meets_sym = λ k l. elim (eqb_tells k l) [
+    | inl t ↦ t.0 ∙ sym (eq-eqb l k (sym t.1))
+    | inr t ↦ t.0 ∙ sym (ne_eqb l k (λ i. t.1 (sym i)))
+  ];
   swap = λ s c d e f x free ne a b. swap s c d e f x free a.0 b.0;
   next_named = λ c es s e h. is_asked c s h.0.placed;
   next_rises = λ c es s e f h m. absurd (subst (λ l. Has l f) (h.1 s) m);

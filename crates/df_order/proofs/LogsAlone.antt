@@ -2,8 +2,7 @@
 use Rattle.std.proofs.Common.{◌≡◌, ℕ, zero, suc, ◌+◌, ◌<◌, ◌≤◌, Bool, true, false, not, List, [], ◌∷◌, inl, inr, refl, sym, ap, ◌∙◌, subst, arith, eqb}
 use Rattle.std.proofs.lemmas.Bool.{cases_lt, false≢true, or_left, or_right, or_parts}
 use Rattle.std.proofs.lemmas.Bool.Decides.{eqb_tells}
-use Rattle.std.specs.Prelude.{if◌then◌else◌}
-use Rattle.df_order.specs.Lists.{Has, Chain}
+use Rattle.df_order.specs.Lists.{Has, Chain, cons_if}
 use Rattle.df_order.specs.Model.{Model, Laws, names_none, own, upto, replay, FitAll, TellAll, Before}
 use Rattle.df_order.specs.Histories.{Item, Legal, LegalTo, Rising, is_nil, some_entry, executed, entries, item, items_where, items, Recorded, state_at, keyspace_at, NumberStands}
 use Rattle.df_order.proofs.Lists.{chain_only, chain_map, nil_none}
@@ -32,11 +31,17 @@ module _ (M : Model) (logs : ℕ → List M.Entry) where
   none_own n zero e s l = absurd (omega (arith, l))
   none_own n (suc t) e s l =
       let w = or_parts (not (is_nil (own M n (logs t)))) (some_entry M logs n t) e in
-      elim (cases_lt s t) [ inl lt ↦ none_own n t w.1 s lt | inr ge ↦ (let i : t ≡ s = omega arith in subst (λ j. own M n (logs j) ≡ []) i (nil_is (own M n (logs t)) w.0)) ]
+      elim (cases_lt s t) [
+        | inl lt ↦ none_own n t w.1 s lt
+        | inr ge ↦ (let i : t ≡ s = omega arith in subst (λ j. own M n (logs j) ≡ []) i (nil_is (own M n (logs t)) w.0))
+      ]
 
   pub none_all : ((s : ℕ) → M.shards ≤ s → logs s ≡ []) → (n : ℕ) → some_entry M logs n M.shards ≡ false → (s : ℕ) →
       own M n (logs s) ≡ []
-  none_all within n e s = elim (cases_lt s M.shards) [ inl lt ↦ none_own n M.shards e s lt | inr ge ↦ ap (own M n) (within s ge) ]
+  none_all within n e s = elim (cases_lt s M.shards) [
+    | inl lt ↦ none_own n M.shards e s lt
+    | inr ge ↦ ap (own M n) (within s ge)
+  ]
 
 -- ---- histories
 
@@ -51,7 +56,7 @@ module _ (M : Model) where
     items_from n (suc count) i h = go (passes n) (items_from (suc n) count i) h
       where
         go : (b : Bool) → (Has (items_where M calls logs replies passes (suc n) count) i → suc n ≤ i.number) →
-            Has (if b then item M calls logs replies n ∷ items_where M calls logs replies passes (suc n) count else items_where M calls logs replies passes (suc n) count) i →
+            Has (cons_if b (item M calls logs replies n) (items_where M calls logs replies passes (suc n) count)) i →
             n ≤ i.number
         go true f (inl e) = let j : n ≡ i.number = ap (λ r. r.number) e in omega arith
         go true f (inr k) = omega (arith, f k)
@@ -63,7 +68,7 @@ module _ (M : Model) where
     items_rise n (suc count) = go (passes n) (items_rise (suc n) count)
       where
         go : (b : Bool) → Rising M (items_where M calls logs replies passes (suc n) count) →
-            Rising M (if b then item M calls logs replies n ∷ items_where M calls logs replies passes (suc n) count else items_where M calls logs replies passes (suc n) count)
+            Rising M (cons_if b (item M calls logs replies n) (items_where M calls logs replies passes (suc n) count))
         go true r = (λ i h. items_from (suc n) count i h, r)
         go false r = r
 
@@ -73,19 +78,22 @@ module _ (M : Model) where
       (n count : ℕ) →
       items_where M calls logs replies passes n count ≡ items_where M calls logs' replies passes' n count
   items_alike calls logs logs' replies passes passes' same alike n zero = refl
-  items_alike calls logs logs' replies passes passes' same alike n (suc count) = go (passes' n) refl (items_alike calls logs logs' replies passes passes' same alike (suc n) count)
+  items_alike calls logs logs' replies passes passes' same alike n (suc count) = go (passes' n) refl
+      (items_alike calls logs logs' replies passes passes' same alike (suc n) count)
     where
       go : (b : Bool) → passes' n ≡ b →
           items_where M calls logs replies passes (suc n) count ≡ items_where M calls logs' replies passes' (suc n) count →
           items_where M calls logs replies passes n (suc count) ≡ items_where M calls logs' replies passes' n (suc count)
       go true f ih =
-          ap (λ b. if b then item M calls logs replies n ∷ items_where M calls logs replies passes (suc n) count else items_where M calls logs replies passes (suc n) count) (same n ∙ f)
+          ap (λ b. cons_if b (item M calls logs replies n) (items_where M calls logs replies passes (suc n) count))
+          (same n ∙ f)
           ∙ (λ i. record { number = n; call = calls n; marks = M.marks (calls n) (alike n f i); reply = replies n } ∷ ih i)
-          ∙ sym (ap (λ b. if b then item M calls logs' replies n ∷ items_where M calls logs' replies passes' (suc n) count else items_where M calls logs' replies passes' (suc n) count) f)
+          ∙ sym (ap (λ b. cons_if b (item M calls logs' replies n) (items_where M calls logs' replies passes' (suc n) count)) f)
       go false f ih =
-          ap (λ b. if b then item M calls logs replies n ∷ items_where M calls logs replies passes (suc n) count else items_where M calls logs replies passes (suc n) count) (same n ∙ f)
+          ap (λ b. cons_if b (item M calls logs replies n) (items_where M calls logs replies passes (suc n) count))
+          (same n ∙ f)
           ∙ ih
-          ∙ sym (ap (λ b. if b then item M calls logs' replies n ∷ items_where M calls logs' replies passes' (suc n) count else items_where M calls logs' replies passes' (suc n) count) f)
+          ∙ sym (ap (λ b. cons_if b (item M calls logs' replies n) (items_where M calls logs' replies passes' (suc n) count)) f)
 
 -- ---- the history that logs tell
 
@@ -98,7 +106,8 @@ module _ (M : Model) (laws : Laws M) (calls : ℕ → M.Call) (count : ℕ) (sta
     where
       next : (n : ℕ) → M.Good s (calls n) n (M.effect e x)
       next n = elim (eqb_tells (M.number e) n) [
-        | inl i ↦ subst (λ m. M.Good s (calls m) m (M.effect e x)) i.1 (laws.good_own s (calls (M.number e)) e x t.0 (good (M.number e)))
+        | inl i ↦ subst (λ m. M.Good s (calls m) m (M.effect e x)) i.1
+            (laws.good_own s (calls (M.number e)) e x t.0 (good (M.number e)))
         | inr i ↦ laws.good_other s (calls n) n e x i.1 (good n)
       ]
 
@@ -109,7 +118,8 @@ module _ (M : Model) (laws : Laws M) (calls : ℕ → M.Call) (count : ℕ) (sta
   fit_own : (s n : ℕ) → n ≤ count → FitAll M calls s (state_at M start logs n s) (own M n (logs s))
   fit_own s n le =
       let all = (sorted M laws calls s (suc count) (start s) (logs s) (recorded.in_order s) (λ e h. omega (arith, (recorded.drawn s e h).1)) (fit_all s)).fits in
-      fit_back M calls s (start s) (upto M n (logs s)) (own M n (logs s)) (fit_upto M calls s (start s) (logs s) (suc n) (suc count) (omega arith) all)
+      fit_back M calls s (start s) (upto M n (logs s)) (own M n (logs s))
+      (fit_upto M calls s (start s) (logs s) (suc n) (suc count) (omega arith) all)
 
   -- the hops of one number rise
   own_rises : (s n : ℕ) → Chain (λ e f. M.hop e < M.hop f) (own M n (logs s))
@@ -122,26 +132,33 @@ module _ (M : Model) (laws : Laws M) (calls : ℕ → M.Call) (count : ℕ) (sta
 
   -- no entry is of number 0
   state_first : state_at M start logs 1 ≡ start
-  state_first = λ i s. replay M (start s) (nil_none (own M 0 (logs s)) (λ e h. let w = has_own M 0 (logs s) e h in omega (arith, w.1, (recorded.drawn s e w.0).0)) i)
+  state_first = λ i s. replay M (start s)
+      (nil_none (own M 0 (logs s)) (λ e h. let w = has_own M 0 (logs s) e h in omega (arith, w.1, (recorded.drawn s e w.0).0)) i)
 
   reaches_from : (m n : ℕ) → n + m ≤ suc count →
       LegalTo M (keyspace_at M start logs n) (items M calls logs replies n m) (keyspace_at M start logs (n + m))
   reaches_from zero n le = ap (keyspace_at M start logs) (let e : n ≡ n + 0 = omega arith in e)
   reaches_from (suc m) n le =
       let next : suc n + m ≡ n + suc m = omega arith in
-      go (executed M calls logs n) refl (subst (λ j. LegalTo M (keyspace_at M start logs (suc n)) (items M calls logs replies (suc n) m) (keyspace_at M start logs j)) next (reaches_from m (suc n) (omega arith)))
+      go (executed M calls logs n) refl
+      (subst (λ j. LegalTo M (keyspace_at M start logs (suc n)) (items M calls logs replies (suc n) m) (keyspace_at M start logs j)) next (reaches_from m (suc n) (omega arith)))
     where
       go : (b : Bool) → executed M calls logs n ≡ b →
           LegalTo M (keyspace_at M start logs (suc n)) (items M calls logs replies (suc n) m) (keyspace_at M start logs (n + suc m)) →
-          LegalTo M (keyspace_at M start logs n) (if b then item M calls logs replies n ∷ items M calls logs replies (suc n) m else items M calls logs replies (suc n) m) (keyspace_at M start logs (n + suc m))
+          LegalTo M (keyspace_at M start logs n)
+          (cons_if b (item M calls logs replies n) (items M calls logs replies (suc n) m))
+          (keyspace_at M start logs (n + suc m))
       go true e r = (
         M.joined (λ s. replay M (state_at M start logs n s) (own M n (logs s))),
-        laws.composes calls n (entries M logs n) (state_at M start logs n) (replies n) (recorded.complete n e) (λ s. fit_own s n (omega arith)) (λ s f h. (has_own M n (logs s) f h).1) (λ s. own_rises s n),
-        subst (λ f. LegalTo M (M.joined f) (items M calls logs replies (suc n) m) (keyspace_at M start logs (n + suc m))) (state_next n) r,
+        laws.composes calls n (entries M logs n) (state_at M start logs n) (replies n) (recorded.complete n e)
+            (λ s. fit_own s n (omega arith)) (λ s f h. (has_own M n (logs s) f h).1) (λ s. own_rises s n),
+        subst (λ f. LegalTo M (M.joined f) (items M calls logs replies (suc n) m) (keyspace_at M start logs (n + suc m)))
+            (state_next n) r,
       )
       go false e r =
           let nil : (s : ℕ) → own M n (logs s) ≡ [] = none_all M logs recorded.within n (or_parts (names_none M (calls n) M.shards) (some_entry M logs n M.shards) e).1 in
-          subst (λ f. LegalTo M (M.joined f) (items M calls logs replies (suc n) m) (keyspace_at M start logs (n + suc m))) (state_next n ∙ (λ i s. replay M (state_at M start logs n s) (nil s i))) r
+          subst (λ f. LegalTo M (M.joined f) (items M calls logs replies (suc n) m) (keyspace_at M start logs (n + suc m)))
+          (state_next n ∙ (λ i s. replay M (state_at M start logs n s) (nil s i))) r
 
   -- the items of the first numbers lead to the keyspace at the next
   pub reaches : (n : ℕ) → n ≤ count →
@@ -154,4 +171,5 @@ module _ (M : Model) (laws : Laws M) (calls : ℕ → M.Call) (count : ℕ) (sta
   number_stands n lt = record { reached = reaches n (omega arith); fitting = λ s. fit_own s (suc n) (omega arith) }
 
   pub legal : Legal M (M.joined start) (items M calls logs replies 1 count)
-  legal = legal_to M (items M calls logs replies 1 count) (M.joined start) (keyspace_at M start logs (suc count)) (reaches count (omega arith))
+  legal = legal_to M (items M calls logs replies 1 count) (M.joined start) (keyspace_at M start logs (suc count))
+      (reaches count (omega arith))

@@ -10,6 +10,7 @@ use Rattle.df_order.proofs.Commute.{fit_append, replay_append, own_has}
 
 -- ---- the queue
 
+-- who is queued after an insert
 pub has_insert : (p : Place) (qs : List Place) (r : Place) → Has (insert p qs) r → (p ≡ r) ⊎ Has qs r
 has_insert p [] r (inl e) = inl e
 has_insert p [] r (inr n) = absurd n
@@ -40,6 +41,7 @@ insert_has_new p (q ∷ qs) = go (ltb p.number q.number) (insert_has_new p qs)
     go true f = inl refl
     go false f = inr f
 
+-- the queue stays sorted
 insert_sorted : (p : Place) (qs : List Place) → ((q : Place) → Has qs q → q.number ≢ p.number) →
     Chain (λ a b. a.number < b.number) qs → Chain (λ a b. a.number < b.number) (insert p qs)
 insert_sorted p [] ne c = (λ z n. absurd n, tt)
@@ -60,6 +62,8 @@ insert_sorted p (q ∷ qs) ne c = go (ltb p.number q.number) refl (insert_sorted
       f,
     )
 
+-- ---- greatest numbers
+
 at_most_tail : (qs : List Place) (q : Place) → Has qs q → q.number ≤ tail qs
 at_most_tail [] q h = absurd h
 at_most_tail (p ∷ qs) q (inl e) = let i : p.number ≡ q.number = ap (λ r. r.number) e in omega arith
@@ -78,6 +82,7 @@ greatest_push M (f ∷ log) e = omega (arith, greatest_push M log e)
 -- ---- who conflicts
 
 module _ (M : Model) where
+  -- keys that are free meet no holder's
   free_says : (k : M.Keys) (hs : List (Holder M)) (h : Holder M) → is_free M k hs ≡ true → Has hs h →
       M.meets k h.keys ≡ false
   free_says k [] h e n = absurd n
@@ -127,7 +132,8 @@ module _ (M : Model) (calls : ℕ → M.Call) (s : ℕ) (start : M.State) where
     where
       go : (b : Bool) → clash M calls s p.number n ≡ b → may.0.granted ≡ true → b ≡ false
       go false i g = refl
-      go true i g = absurd (false≢true (sym (kept.grants p may.0 h may.1 (omega (arith, may.2)) (ap (clash M calls s p.number) may.2 ∙ i)) ∙ g))
+      go true i g = absurd
+          (false≢true (sym (kept.grants p may.0 h may.1 (omega (arith, may.2)) (ap (clash M calls s p.number) may.2 ∙ i)) ∙ g))
 
   -- a call leaves
   pub kept_leave : (x : Shard M) (n : ℕ) → Kept M calls s start x → Kept M calls s start (leave M n x)
@@ -158,7 +164,11 @@ module _ (M : Model) (calls : ℕ → M.Call) (s : ℕ) (start : M.State) where
     held = kept.held;
     holding = kept.holding;
     grants = kept.grants;
-    ahead = λ p f hp hf lt. elim (has_last x.log e f hf) [ inl h ↦ kept.ahead p f hp h lt | inr i ↦ (let j : M.number e ≡ M.number f = ap M.number i in subst (λ g. clash M calls s p.number (M.number g) ≡ false) i (low p hp (omega arith))) ];
+    ahead = λ p f hp hf lt. elim (has_last x.log e f hf) [
+      | inl h ↦ kept.ahead p f hp h lt
+      | inr i ↦
+          (let j : M.number e ≡ M.number f = ap M.number i in subst (λ g. clash M calls s p.number (M.number g) ≡ false) i (low p hp (omega arith)))
+    ];
     ran_is = ap (λ r. max r (M.number e)) kept.ran_is ∙ sym (greatest_push M x.log e);
     in_order = chain_push (Before M calls s) x.log e kept.in_order order;
     replayed = ap (M.effect e) kept.replayed ∙ sym (replay_append M start x.log (e ∷ []));
@@ -171,7 +181,8 @@ module _ (M : Model) (laws : Laws M) (calls : ℕ → M.Call) (s : ℕ) (start :
   -- who waits conflicts with no higher number that ran
   pub queued_order : (x : Shard M) (n : ℕ) → Kept M calls s start x → Queued x.queue n → (f : M.Entry) → Has x.log f →
       n < M.number f → clash M calls s (M.number f) n ≡ false
-  queued_order x n kept q f h lt = clash_sym M laws calls s (M.number f) n ∙ subst (λ m. clash M calls s m (M.number f) ≡ false) q.2 (kept.ahead q.0 f q.1 h (omega (arith, q.2)))
+  queued_order x n kept q f h lt = clash_sym M laws calls s (M.number f) n
+      ∙ subst (λ m. clash M calls s m (M.number f) ≡ false) q.2 (kept.ahead q.0 f q.1 h (omega (arith, q.2)))
 
   -- a call comes to wait that is above all that ran, and is free or above all that wait
   pub kept_enqueue : (x : Shard M) (n : ℕ) (k : M.Keys) → Kept M calls s start x → M.footprint (calls n) s ≡ Some k →
@@ -179,10 +190,20 @@ module _ (M : Model) (laws : Laws M) (calls : ℕ → M.Call) (s : ℕ) (start :
       Kept M calls s start (enqueue M n k x)
   kept_enqueue x n k kept fp new above right = record {
     sorted = insert_sorted place x.queue new kept.sorted;
-    held = λ p h. elim (has_insert place x.queue p h) [ inl e ↦ (record { number = n; keys = k }, inl refl, ap (λ r. r.number) e) | inr m ↦ (let w = kept.held p m in (w.0, inr w.1, w.2)) ];
-    holding = λ h m. elim m [ inl e ↦ ((place, insert_has_new place x.queue, ap (λ r. r.number) e), subst (λ g. M.footprint (calls g.number) s ≡ Some g.keys) e fp) | inr i ↦ (let v = kept.holding h i in ((v.0.0, insert_has_old place x.queue v.0.0 v.0.1, v.0.2), v.1)) ];
+    held = λ p h. elim (has_insert place x.queue p h) [
+      | inl e ↦ (record { number = n; keys = k }, inl refl, ap (λ r. r.number) e)
+      | inr m ↦ (let w = kept.held p m in (w.0, inr w.1, w.2))
+    ];
+    holding = λ h m. elim m [
+      | inl e ↦
+          ((place, insert_has_new place x.queue, ap (λ r. r.number) e), subst (λ g. M.footprint (calls g.number) s ≡ Some g.keys) e fp)
+      | inr i ↦ (let v = kept.holding h i in ((v.0.0, insert_has_old place x.queue v.0.0 v.0.1, v.0.2), v.1))
+    ];
     grants = λ p q hp hq lt c. grants p q (has_insert place x.queue p hp) (has_insert place x.queue q hq) lt c;
-    ahead = λ p e hp he lt. elim (has_insert place x.queue p hp) [ inl i ↦ (let j : n ≡ p.number = ap (λ r. r.number) i in absurd (omega (arith, ran_most M calls s start x kept e he))) | inr m ↦ kept.ahead p e m he lt ];
+    ahead = λ p e hp he lt. elim (has_insert place x.queue p hp) [
+      | inl i ↦ (let j : n ≡ p.number = ap (λ r. r.number) i in absurd (omega (arith, ran_most M calls s start x kept e he)))
+      | inr m ↦ kept.ahead p e m he lt
+    ];
     ran_is = kept.ran_is;
     in_order = kept.in_order;
     replayed = kept.replayed;
@@ -197,7 +218,8 @@ module _ (M : Model) (laws : Laws M) (calls : ℕ → M.Call) (s : ℕ) (start :
         where
           go : (b : Bool) → is_free M k x.holders ≡ b → b ≡ false
           go false i = refl
-          go true i = absurd (false≢true (sym (clash_sym M laws calls s p.number n ∙ free_clash M calls s start x n k p kept fp i mp) ∙ c))
+          go true i = absurd
+              (false≢true (sym (clash_sym M laws calls s p.number n ∙ free_clash M calls s start x n k p kept fp i mp) ∙ c))
 
       grants : (p q : Place) → (place ≡ p) ⊎ Has x.queue p → (place ≡ q) ⊎ Has x.queue q → p.number < q.number →
           clash M calls s p.number q.number ≡ true → q.granted ≡ false
@@ -207,7 +229,8 @@ module _ (M : Model) (laws : Laws M) (calls : ℕ → M.Call) (s : ℕ) (start :
           absurd (omega arith)
       grants p q (inr mp) (inl j) lt c = ap (λ r. r.granted) (sym j) ∙ waits p mp (ap (λ r. clash M calls s p.number r.number) j ∙ c)
       grants p q (inl i) (inr mq) lt c = absurd (elim right [
-        | inl free ↦ false≢true (sym (free_clash M calls s start x n k q kept fp free mq) ∙ ap (λ r. clash M calls s r.number q.number) i ∙ c)
+        | inl free ↦ false≢true
+            (sym (free_clash M calls s start x n k q kept fp free mq) ∙ ap (λ r. clash M calls s r.number q.number) i ∙ c)
         | inr top ↦ (let a : n ≡ p.number = ap (λ r. r.number) i in omega (arith, at_most_tail x.queue q mq))
       ])
       grants p q (inr mp) (inr mq) lt c = kept.grants p q mp mq lt c
@@ -220,14 +243,16 @@ module _ (M : Model) (laws : Laws M) (calls : ℕ → M.Call) (s : ℕ) (start :
       (λ p h lt. subst (λ m. clash M calls s p.number m ≡ false) (sym i) (may_run_low M calls s start x n kept turn p h (omega (arith, i))))
       (λ f h. record {
         rises = λ j. rises f (own_has M n x.log f h (j ∙ i));
-        lower = λ lt. subst (λ m. clash M calls s (M.number f) m ≡ false) (sym i) (queued_order x n kept (turn.0, turn.1, turn.2) f h (omega (arith, i)));
+        lower = λ lt. subst (λ m. clash M calls s (M.number f) m ≡ false) (sym i)
+            (queued_order x n kept (turn.0, turn.1, turn.2) f h (omega (arith, i)));
       })
 
   -- a call above all that ran, whose keys are free, runs at once
   pub kept_at_once : (x : Shard M) (n : ℕ) (k : M.Keys) (e : M.Entry) → Kept M calls s start x →
       M.footprint (calls n) s ≡ Some k → is_free M k x.holders ≡ true → x.ran < n → M.number e ≡ n →
       Fits M s (calls n) e x.state → Kept M calls s start (enter M e x)
-  kept_at_once x n k e kept fp free above i fits = kept_enter M calls s start x e kept (subst (λ m. Fits M s (calls m) e x.state) (sym i) fits)
+  kept_at_once x n k e kept fp free above i fits = kept_enter M calls s start x e kept
+      (subst (λ m. Fits M s (calls m) e x.state) (sym i) fits)
       (λ p h lt. subst (λ m. clash M calls s p.number m ≡ false) (sym i) (clash_sym M laws calls s p.number n ∙ free_clash M calls s start x n k p kept fp free h))
       (λ f h. record {
         rises = λ j. absurd (omega (arith, ran_most M calls s start x kept f h, i));
@@ -242,7 +267,8 @@ module _ (M : Model) (calls calls' : ℕ → M.Call) (s : ℕ) where
       ((e : M.Entry) → Has log e → calls (M.number e) ≡ calls' (M.number e)) → FitAll M calls s x log →
       FitAll M calls' s x log
   fit_calls x [] same a = tt
-  fit_calls x (e ∷ log) same a = (subst (λ c. Fits M s c e x) (same e (inl refl)) a.0, fit_calls (M.effect e x) log (λ f h. same f (inr h)) a.1)
+  fit_calls x (e ∷ log) same a =
+      (subst (λ c. Fits M s c e x) (same e (inl refl)) a.0, fit_calls (M.effect e x) log (λ f h. same f (inr h)) a.1)
 
   clash_calls : (n m : ℕ) → calls n ≡ calls' n → calls m ≡ calls' m → clash M calls s n m ≡ clash M calls' s n m
   clash_calls n m a b = λ i. conflict M (M.footprint (a i) s) (M.footprint (b i) s)
@@ -251,7 +277,8 @@ module _ (M : Model) (calls calls' : ℕ → M.Call) (s : ℕ) where
       IsInOrder M calls s log → IsInOrder M calls' s log
   order_calls [] same c = tt
   order_calls (e ∷ log) same c = (
-    λ f h. record { rises = (c.0 f h).rises; lower = λ lt. sym (clash_calls (M.number e) (M.number f) (same e (inl refl)) (same f (inr h))) ∙ (c.0 f h).lower lt },
+    λ f h. record
+        { rises = (c.0 f h).rises; lower = λ lt. sym (clash_calls (M.number e) (M.number f) (same e (inl refl)) (same f (inr h))) ∙ (c.0 f h).lower lt },
     order_calls log (λ f h. same f (inr h)) c.1,
   )
 

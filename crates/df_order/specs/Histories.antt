@@ -14,9 +14,8 @@ use Rattle.std.specs.Prelude.{
   ◌∷◌,
   ◌||◌,
   not,
-  if◌then◌else◌,
 }
-use Rattle.df_order.specs.Lists.{Has, Chain}
+use Rattle.df_order.specs.Lists.{Has, Chain, cons_if}
 use Rattle.df_order.specs.Model.{Model, names_none, own, upto, replay, FitAll, TellAll, IsInOrder}
 
 -- ---- histories
@@ -71,8 +70,7 @@ abbrev pub items_where :
     (M : Model) → (ℕ → M.Call) → (ℕ → List M.Entry) → (ℕ → M.Reply) → (ℕ → Bool) → ℕ → ℕ → List (Item M)
 items_where M calls logs replies passes n zero = []
 items_where M calls logs replies passes n (suc count) =
-    if passes n then item M calls logs replies n ∷ items_where M calls logs replies passes (suc n) count else
-    items_where M calls logs replies passes (suc n) count
+    cons_if (passes n) (item M calls logs replies n) (items_where M calls logs replies passes (suc n) count)
 
 -- an item for each number that was executed
 abbrev pub items : (M : Model) → (ℕ → M.Call) → (ℕ → List M.Entry) → (ℕ → M.Reply) → ℕ → ℕ → List (Item M)

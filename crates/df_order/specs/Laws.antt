@@ -1,9 +1,9 @@
 -- The laws of the order of calls, each of any commands.
-use Rattle.std.specs.Prelude.{◌≡◌, ◌≢◌, ◌⊎◌, ℕ, ◌<◌, ◌≤◌, true, List, Some}
+use Rattle.std.specs.Prelude.{◌≡◌, ◌≢◌, ◌⊎◌, ℕ, ◌<◌, ◌≤◌, true, false, List, Some}
 use Rattle.df_order.specs.Lists.{Has}
-use Rattle.df_order.specs.Model.{Model, Laws, own, upto, Fits, FitAll, IsInOrder, Alike}
+use Rattle.df_order.specs.Model.{Model, Laws, clash, own, upto, Fits, FitAll, Before, IsInOrder, Alike}
 use Rattle.df_order.specs.Histories.{Legal, Rising, items, Recorded, NumberStands}
-use Rattle.df_order.specs.Shards.{Place, Shard, tail, is_free, empty, enqueue, leave, enter, MayRun, Kept}
+use Rattle.df_order.specs.Shards.{Place, Shard, Queued, tail, is_free, empty, enqueue, leave, enter, MayRun, Kept}
 
 -- ---- logs alone
 
@@ -50,14 +50,22 @@ KeptByLeave M =
     (calls : ℕ → M.Call) (s : ℕ) (start : M.State) (x : Shard M) (n : ℕ) → Kept M calls s start x →
     Kept M calls s start (leave M n x)
 
--- a waiting call that is granted or the head may run its next hop
+-- a hop that fits may run, if it conflicts with no lower call that waits and may stand behind each entry
+abbrev pub KeptByEnter : Model → Type 0
+KeptByEnter M =
+    (calls : ℕ → M.Call) (s : ℕ) (start : M.State) (x : Shard M) (e : M.Entry) → Kept M calls s start x →
+    Fits M s (calls (M.number e)) e x.state →
+    ((p : Place) → Has x.queue p → p.number < M.number e → clash M calls s p.number (M.number e) ≡ false) →
+    ((f : M.Entry) → Has x.log f → Before M calls s f e) → Kept M calls s start (enter M e x)
+
+-- so a waiting call that is granted or the head may run its next hop
 abbrev pub KeptByHop : Model → Type 0
 KeptByHop M =
     Laws M → (calls : ℕ → M.Call) (s : ℕ) (start : M.State) (x : Shard M) (n : ℕ) (e : M.Entry) →
     Kept M calls s start x → MayRun x.queue n → M.number e ≡ n → Fits M s (calls n) e x.state →
     ((f : M.Entry) → Has (own M n x.log) f → M.hop f < M.hop e) → Kept M calls s start (enter M e x)
 
--- a call that is above all that ran, and free, may run without waiting
+-- and a call that is above all that ran, and free, may run without waiting
 abbrev pub KeptAtOnce : Model → Type 0
 KeptAtOnce M =
     Laws M → (calls : ℕ → M.Call) (s : ℕ) (start : M.State) (x : Shard M) (n : ℕ) (k : M.Keys) (e : M.Entry) →
@@ -71,3 +79,29 @@ KeptByLearning M =
     ((p : Place) → Has x.queue p → calls p.number ≡ calls' p.number) →
     ((e : M.Entry) → Has x.log e → calls (M.number e) ≡ calls' (M.number e)) → Kept M calls s start x →
     Kept M calls' s start x
+
+-- ---- who conflicts on a shard
+
+abbrev pub RanIsGreatest : Model → Type 0
+RanIsGreatest M =
+    (calls : ℕ → M.Call) (s : ℕ) (start : M.State) (x : Shard M) → Kept M calls s start x → (e : M.Entry) →
+    Has x.log e → M.number e ≤ x.ran
+
+-- a call whose keys are free conflicts with none that waits
+abbrev pub FreeIsApart : Model → Type 0
+FreeIsApart M =
+    (calls : ℕ → M.Call) (s : ℕ) (start : M.State) (x : Shard M) (n : ℕ) (k : M.Keys) (p : Place) →
+    Kept M calls s start x → M.footprint (calls n) s ≡ Some k → is_free M k x.holders ≡ true → Has x.queue p →
+    clash M calls s n p.number ≡ false
+
+-- a waiting call that may run conflicts with no lower one that waits
+abbrev pub TurnIsApart : Model → Type 0
+TurnIsApart M =
+    (calls : ℕ → M.Call) (s : ℕ) (start : M.State) (x : Shard M) (n : ℕ) → Kept M calls s start x →
+    MayRun x.queue n → (p : Place) → Has x.queue p → p.number < n → clash M calls s p.number n ≡ false
+
+-- a waiting call conflicts with no higher number that ran
+abbrev pub WaitingIsApart : Model → Type 0
+WaitingIsApart M =
+    Laws M → (calls : ℕ → M.Call) (s : ℕ) (start : M.State) (x : Shard M) (n : ℕ) → Kept M calls s start x →
+    Queued x.queue n → (e : M.Entry) → Has x.log e → n < M.number e → clash M calls s (M.number e) n ≡ false

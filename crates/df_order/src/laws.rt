@@ -2,7 +2,7 @@
 
 ghost use Rattle.df_order.specs.Model.{Model, Laws};
 ghost use Rattle.df_order.specs.Counters.{counters};
-ghost use Rattle.df_order.specs.Laws.{RecordedLegal, ItemsRise, NumbersStand, LogsSort, KeptAtFirst, KeptByEnqueue, KeptByLeave, KeptByHop, KeptAtOnce, KeptByLearning};
+ghost use Rattle.df_order.specs.Laws.{RecordedLegal, ItemsRise, NumbersStand, LogsSort, KeptAtFirst, KeptByEnqueue, KeptByLeave, KeptByEnter, KeptByHop, KeptAtOnce, KeptByLearning, RanIsGreatest, FreeIsApart, TurnIsApart, WaitingIsApart};
 
 /// Some commands, told by a model. A law that is generic over this is one of every model.
 pub trait Commands {
@@ -42,9 +42,11 @@ pub fn leaving_keeps_a_shard<C: Commands>()
     ensures { KeptByLeave C.model }
 {}
 
-/// So does one where a waiting call runs its next hop in its turn.
+/// So does one where a hop runs that has its place in the order, as the next hop of a waiting call has in
+/// its turn.
 pub fn hops_keep_a_shard<C: Commands>()
-    ensures { KeptByHop C.model }
+    ensures in_order { KeptByEnter C.model }
+    ensures in_turn { KeptByHop C.model }
 {}
 
 /// So does one where a call runs without waiting.
@@ -55,6 +57,14 @@ pub fn running_at_once_keeps_a_shard<C: Commands>()
 /// So does one of which further calls become known.
 pub fn learning_calls_keeps_a_shard<C: Commands>()
     ensures { KeptByLearning C.model }
+{}
+
+/// Who can't conflict on a shard, while its invariant holds.
+pub fn kept_shards_know_who_conflicts<C: Commands>()
+    ensures ran { RanIsGreatest C.model }
+    ensures free { FreeIsApart C.model }
+    ensures turn { TurnIsApart C.model }
+    ensures waiting { WaitingIsApart C.model }
 {}
 
 /// Counters on two shards: a small model, so that the laws are known to be met.

@@ -61,7 +61,8 @@ module _ (M : Model) (laws : Laws M) (start : ℕ → M.State) (w : World M) (so
   same_entries s n m p x e = λ i t. same t i
     where
       same : (t : ℕ) → own M m (logs M (moved M s n p x w) t) ≡ own M m (logs M w t)
-      same t = put_case (λ y. own M m y.log ≡ own M m (w.shard t).log) s t x w.shard (λ j. ap (own M m) e ∙ ap (λ u. own M m (w.shard u).log) (sym j)) (λ _. refl)
+      same t = put_case (λ y. own M m y.log ≡ own M m (w.shard t).log) s t x w.shard
+          (λ j. ap (own M m) e ∙ ap (λ u. own M m (w.shard u).log) (sym j)) (λ _. refl)
 
   same_finished : (s n : ℕ) (p : Phase) (x : Shard M) → x.log ≡ (w.shard s).log → Finished M w n →
       Finished M (moved M s n p x w) n
@@ -81,11 +82,17 @@ module _ (M : Model) (laws : Laws M) (start : ℕ → M.State) (w : World M) (so
       let a = and_parts (ltb (w.shard s).ran n) (is_free M k (w.shard s).holders || not (ltb n (tail (w.shard s).queue))) t in
       let place : Place = record { number = n; granted = is_free M k (w.shard s).holders } in
       let right : (is_free M k (w.shard s).holders ≡ true) ⊎ (tail (w.shard s).queue ≤ n) =
-      elim (or_cases (is_free M k (w.shard s).holders) (not (ltb n (tail (w.shard s).queue))) a.1) [ inl f ↦ inl f | inr g ↦ inr (ltb-false n (tail (w.shard s).queue) (not-true (ltb n (tail (w.shard s).queue)) g)) ] in
+      elim (or_cases (is_free M k (w.shard s).holders) (not (ltb n (tail (w.shard s).queue))) a.1)
+      [ inl f ↦ inl f | inr g ↦ inr (ltb-false n (tail (w.shard s).queue) (not-true (ltb n (tail (w.shard s).queue)) g)) ]
+      in
       moved_sound M start w s n (Taken quick) (enqueue M n k (w.shard s)) sound record {
-        kept = kept_enqueue M laws w.call s (start s) (w.shard s) n k (sound.shards s) fp (fresh_queue M start w sound s n can.fresh) (ltb-true (w.shard s).ran n a.0) right;
+        kept = kept_enqueue M laws w.call s (start s) (w.shard s) n k (sound.shards s) fp
+            (fresh_queue M start w sound s n can.fresh) (ltb-true (w.shard s).ran n a.0) right;
         live = can.drawn;
-        queue_in = λ p h. elim (has_insert place (w.shard s).queue p h) [ inl e ↦ ((λ _. tt), (λ ne. absurd (ne (sym (ap (λ r. r.number) e))))) | inr m ↦ ((λ _. tt), (λ _. m)) ];
+        queue_in = λ p h. elim (has_insert place (w.shard s).queue p h) [
+          | inl e ↦ ((λ _. tt), (λ ne. absurd (ne (sym (ap (λ r. r.number) e)))))
+          | inr m ↦ ((λ _. tt), (λ _. m))
+        ];
         queue_new = λ _. (place, insert_has_new place (w.shard s).queue, refl);
         queue_old = λ m ne h. (h.0, insert_has_old place (w.shard s).queue h.0 h.1, h.2);
         log_in = λ e h. inl h;
@@ -138,7 +145,8 @@ module _ (M : Model) (laws : Laws M) (start : ℕ → M.State) (w : World M) (so
     log_in = λ e h. inl h;
     asked = sound.asked s n (λ e. subst IsTaken e can.taken);
     quick = λ e. absurd (subst IsTaken (sym e) tt);
-    act = λ t e h i. absurd (subst IsActive (ap (w.phase can.other.0) i ∙ can.other.2) (sound.active t e h can.other.0 (subst (λ m. M.footprint (w.call m) can.other.0 ≢ None) (sym i) can.other.1)));
+    act = λ t e h i. absurd
+        (subst IsActive (ap (w.phase can.other.0) i ∙ can.other.2) (sound.active t e h can.other.0 (subst (λ m. M.footprint (w.call m) can.other.0 ≢ None) (sym i) can.other.1)));
     own_old = λ m ne. refl;
     good = sound.good s;
     clean = sound.clean s;
@@ -202,14 +210,19 @@ module _ (M : Model) (laws : Laws M) (start : ℕ → M.State) (w : World M) (so
         queue_in = λ p h. ((λ i. absurd (fresh_queue M start w sound s n can.offer.fresh p h i)), (λ _. h));
         queue_new = λ t. absurd t;
         queue_old = λ m ne h. h;
-        log_in = λ f h. elim (has_last x.log e f h) [ inl o ↦ inl o | inr i ↦ inr record { number = sym (ap M.number i) ∙ can.number; named = can.offer.named; here = tt; elsewhere = λ u l ne. absurd (ne (laws.quick_one (w.call n) s u can.quick can.offer.named l)) } ];
+        log_in = λ f h. elim (has_last x.log e f h) [
+          | inl o ↦ inl o
+          | inr i ↦ inr record
+              { number = sym (ap M.number i) ∙ can.number; named = can.offer.named; here = tt; elsewhere = λ u l ne. absurd (ne (laws.quick_one (w.call n) s u can.quick can.offer.named l)) }
+        ];
         asked = can.offer.named;
         quick = λ d. absurd (subst IsTaken (sym d) tt);
         act = λ t f h i. tt;
         own_old = λ m ne. own_no_more M m e x.log (λ i. ne (sym i ∙ can.number));
         good = entered_good s n e can.number fits.0;
         clean = entered_clean s n e can.number can.offer.drawn;
-        whole = λ _. laws.quick_whole (w.call n) (λ t. []) (entries M (logs M (moved M s n Done (enter M e x) w)) n) s e can.quick can.next
+        whole = λ _. laws.quick_whole (w.call n) (λ t. []) (entries M (logs M (moved M s n Done (enter M e x) w)) n) s
+            e can.quick can.next
             (pushed_here s n Done e (enter M e x) refl can.number ∙ ap (λ l. l ++ e ∷ []) (nil s))
             (λ t ne. pushed_there s n Done (enter M e x) t ne ∙ nil t);
       }
@@ -217,14 +230,16 @@ module _ (M : Model) (laws : Laws M) (start : ℕ → M.State) (w : World M) (so
   -- a waiting call runs a hop
   hop_kept : (s n : ℕ) (e : M.Entry) → CanHop M w s n e → Kept M w.call s (start s) (enter M e (w.shard s))
   hop_kept s n e can =
-      kept_hop M laws w.call s (start s) (w.shard s) n e (sound.shards s) can.turn can.number (can.told, subst (λ m. M.Good s (w.call n) m (w.shard s).state) (sym can.number) (sound.good s n (queued_drawn M start w sound s n (can.turn.0, can.turn.1, can.turn.2)).1))
+      kept_hop M laws w.call s (start s) (w.shard s) n e (sound.shards s) can.turn can.number
+      (can.told, subst (λ m. M.Good s (w.call n) m (w.shard s).state) (sym can.number) (sound.good s n (queued_drawn M start w sound s n (can.turn.0, can.turn.1, can.turn.2)).1))
       (λ f h. laws.next_rises (w.call n) (entries M (logs M w) n) s e f can.next h)
 
   hop_log : (s n : ℕ) (e : M.Entry) (p : Phase) → CanHop M w s n e → IsActive p → (f : M.Entry) →
       Has ((w.shard s).log ++ e ∷ []) f → Has (w.shard s).log f ⊎ Enters M w s n p f
   hop_log s n e p can act f h = elim (has_last (w.shard s).log e f h) [
     | inl o ↦ inl o
-    | inr i ↦ inr record { number = sym (ap M.number i) ∙ can.number; named = laws.next_named (w.call n) (entries M (logs M w) n) s e can.next; here = act; elsewhere = λ u l ne. taken_active (w.phase u n) (can.taken u l) }
+    | inr i ↦ inr record
+        { number = sym (ap M.number i) ∙ can.number; named = laws.next_named (w.call n) (entries M (logs M w) n) s e can.next; here = act; elsewhere = λ u l ne. taken_active (w.phase u n) (can.taken u l) }
   ]
 
   -- it goes on waiting
@@ -243,7 +258,10 @@ module _ (M : Model) (laws : Laws M) (start : ℕ → M.State) (w : World M) (so
     own_old = λ m ne. own_no_more M m e (w.shard s).log (λ i. ne (sym i ∙ can.number));
     good = entered_good s n e can.number can.told;
     clean = entered_clean s n e can.number (sound.drawn s n (λ i. subst IsTaken (sym ph ∙ i) tt));
-    whole = λ d. elim d [ inl i ↦ absurd (not_done false i) | inr v ↦ absurd (subst IsTaken v.2 (can.taken v.0 (sound.asked v.0 n (λ i. subst IsActive (sym v.2 ∙ i) tt)))) ];
+    whole = λ d. elim d [
+      | inl i ↦ absurd (not_done false i)
+      | inr v ↦ absurd (subst IsTaken v.2 (can.taken v.0 (sound.asked v.0 n (λ i. subst IsActive (sym v.2 ∙ i) tt))))
+    ];
   }
 
   -- it came by a Quick, so it leaves
@@ -262,7 +280,9 @@ module _ (M : Model) (laws : Laws M) (start : ℕ → M.State) (w : World M) (so
     own_old = λ m ne. own_no_more M m e (w.shard s).log (λ i. ne (sym i ∙ can.number));
     good = entered_good s n e can.number can.told;
     clean = entered_clean s n e can.number (sound.drawn s n (λ i. subst IsTaken (sym ph ∙ i) tt));
-    whole = λ _. laws.quick_whole (w.call n) (entries M (logs M w) n) (entries M (logs M (moved M s n Done (leave M n (enter M e (w.shard s))) w)) n) s e (sound.by_quick s n ph) can.next
+    whole = λ _. laws.quick_whole (w.call n) (entries M (logs M w) n)
+        (entries M (logs M (moved M s n Done (leave M n (enter M e (w.shard s))) w)) n) s e (sound.by_quick s n ph)
+        can.next
         (pushed_here s n Done e (leave M n (enter M e (w.shard s))) refl can.number)
         (pushed_there s n Done (leave M n (enter M e (w.shard s))));
   }
@@ -279,15 +299,20 @@ module _ (M : Model) (laws : Laws M) (start : ℕ → M.State) (w : World M) (so
   -- a call draws its number
   draw_sound : (k : ℕ) (c : M.Call) → Sound M start (after M w (Draw k c))
   draw_sound k c = record {
-    shards = λ s. kept_calls M w.call (put w.counter c w.call) s (start s) (w.shard s) (λ p h. same p.number (place_drawn M start w sound s p h).1) (λ e h. same (M.number e) (entry_drawn M start w sound s e h).1) (sound.shards s);
+    shards = λ s. kept_calls M w.call (put w.counter c w.call) s (start s) (w.shard s)
+        (λ p h. same p.number (place_drawn M start w sound s p h).1)
+        (λ e h. same (M.number e) (entry_drawn M start w sound s e h).1) (sound.shards s);
     queued = sound.queued;
     taken = sound.taken;
-    active = λ s e h t l. sound.active s e h t (subst (λ d. M.footprint d t ≢ None) (sym (same (M.number e) (entry_drawn M start w sound s e h).1)) l);
+    active = λ s e h t l. sound.active s e h t
+        (subst (λ d. M.footprint d t ≢ None) (sym (same (M.number e) (entry_drawn M start w sound s e h).1)) l);
     named = λ s e h. subst (λ d. M.footprint d s ≢ None) (same (M.number e) (entry_drawn M start w sound s e h).1) (sound.named s e h);
-    done = λ s n d. subst (λ c. Whole M c (entries M (logs M w) n)) (same n (sound.drawn s n (λ i. subst IsActive (sym d ∙ i) tt)).1) (sound.done s n d);
+    done = λ s n d. subst (λ c. Whole M c (entries M (logs M w) n))
+        (same n (sound.drawn s n (λ i. subst IsActive (sym d ∙ i) tt)).1) (sound.done s n d);
     drawn = λ s n h. let d = sound.drawn s n h in (d.0, omega (arith, d.1));
     asked = λ s n h. subst (λ d. M.footprint d s ≢ None) (same n (sound.drawn s n h).1) (sound.asked s n h);
-    by_quick = λ s n h. subst (λ d. M.quick d ≡ true) (same n (sound.drawn s n (λ i. subst IsTaken (sym h ∙ i) tt)).1) (sound.by_quick s n h);
+    by_quick = λ s n h. subst (λ d. M.quick d ≡ true) (same n (sound.drawn s n (λ i. subst IsTaken (sym h ∙ i) tt)).1)
+        (sound.by_quick s n h);
     good = λ s n lt. elim (cases_lt n w.counter) [
       | inl l ↦ subst (λ d. M.Good s d n (w.shard s).state) (same n l) (sound.good s n l)
       | inr ge ↦ sound.clean s n (put w.counter c w.call n) ge
@@ -301,11 +326,13 @@ module _ (M : Model) (laws : Laws M) (start : ℕ → M.State) (w : World M) (so
 
   pub event_sound : (e : Event M) → Happens M w e → Sound M start (after M w e)
   event_sound (Draw k c) can = draw_sound k c
-  event_sound (Schedule s n memory) can = offered_sound false s n memory can (λ e. absurd (false≢true e)) (M.footprint (w.call n) s) refl
+  event_sound (Schedule s n memory) can = offered_sound false s n memory can (λ e. absurd (false≢true e))
+      (M.footprint (w.call n) s) refl
   event_sound (Quick s n memory e) can = go (M.footprint (w.call n) s) refl
     where
       go : (f : Option M.Keys) → M.footprint (w.call n) s ≡ f →
-          Sound M start (if runs_at_once M n memory f (w.shard s) then moved M s n Done (enter M e (w.shard s)) w else offered M true s n memory f w)
+          Sound M start
+          (if runs_at_once M n memory f (w.shard s) then moved M s n Done (enter M e (w.shard s)) w else offered M true s n memory f w)
       go None i = absurd (can.offer.named i)
       go (Some k) i = now (runs_at_once M n memory (Some k) (w.shard s)) refl
         where
@@ -320,23 +347,24 @@ module _ (M : Model) (laws : Laws M) (start : ℕ → M.State) (w : World M) (so
 
 -- ---- runs
 
-module _ (M : Model) (laws : Laws M) (start : ℕ → M.State) where
-  pub first_sound : (idle : M.Call) → ((s : ℕ) → Unstaged M s (start s)) → Sound M start (first M idle start)
-  first_sound idle unstaged = record {
-    shards = λ s. kept_first M (λ n. idle) s (start s);
-    queued = λ s n h. absurd h;
-    taken = λ s p h. absurd h;
-    active = λ s e h. absurd h;
-    named = λ s e h. absurd h;
-    done = λ s n d. absurd (subst IsActive (sym d) tt);
-    drawn = λ s n h. absurd (h refl);
-    asked = λ s n h. absurd (h refl);
-    by_quick = λ s n d. absurd (subst IsActive (sym d) tt);
-    good = λ s n lt. (unstaged s).good n idle;
-    clean = λ s n d ge. (unstaged s).good n d;
-    counted = omega arith;
-  }
+pub first_sound : (M : Model) (start : ℕ → M.State) (idle : M.Call) → ((s : ℕ) → Unstaged M s (start s)) → Sound M start (first M idle start)
+first_sound M start idle unstaged = record {
+  shards = λ s. kept_first M (λ n. idle) s (start s);
+  queued = λ s n h. absurd h;
+  taken = λ s p h. absurd h;
+  active = λ s e h. absurd h;
+  named = λ s e h. absurd h;
+  done = λ s n d. absurd (subst IsActive (sym d) tt);
+  drawn = λ s n h. absurd (h refl);
+  asked = λ s n h. absurd (h refl);
+  by_quick = λ s n d. absurd (subst IsActive (sym d) tt);
+  good = λ s n lt. (unstaged s).good n idle;
+  clean = λ s n d ge. (unstaged s).good n d;
+  counted = omega arith;
+}
 
-  pub runs_sound : (es : List (Event M)) (w last : World M) → Sound M start w → Runs M w es last → Sound M start last
-  runs_sound [] w last sound r = subst (Sound M start) r sound
-  runs_sound (e ∷ es) w last sound r = runs_sound es (after M w e) last (event_sound M laws start w sound e r.0) r.1
+pub runs_sound : (M : Model) (laws : Laws M) (start : ℕ → M.State) (es : List (Event M)) (w last : World M) →
+    Sound M start w → Runs M w es last → Sound M start last
+runs_sound M laws start [] w last sound r = subst (Sound M start) r sound
+runs_sound M laws start (e ∷ es) w last sound r =
+    runs_sound M laws start es (after M w e) last (event_sound M laws start w sound e r.0) r.1

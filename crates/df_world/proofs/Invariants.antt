@@ -27,7 +27,8 @@ invariant_of M laws start w sound s unstaged =
         | inr all ↦ record { hops = entries M (logs M w) (M.number e); here = refl; whole = all }
       ];
       replayed = kept.replayed;
-      sorts = sorted M laws w.call s w.counter (start s) (w.shard s).log kept.in_order (λ e h. (entry_drawn M start w sound s e h).1) kept.fitting;
+      sorts = sorted M laws w.call s w.counter (start s) (w.shard s).log kept.in_order
+          (λ e h. (entry_drawn M start w sound s e h).1) kept.fitting;
       bare = λ n out. staged_queued M laws start w sound s n unstaged out;
       good = λ n q. sound.good s n (queued_drawn M start w sound s n q).1;
     }

@@ -5,3 +5,4 @@ pub mod Staged
 pub mod Invariants
 pub mod OneList
 pub mod Seen
+mod Examples

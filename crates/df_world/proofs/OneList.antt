@@ -22,12 +22,16 @@ none_is : {X : Type 0} (o : Option X) → is_none o ≡ true → o ≡ None
 none_is None e = refl
 none_is (Some x) e = absurd (false≢true e)
 
+-- a call that names none of the first shards asks for nothing there
 pub names_none_at : (M : Model) (c : M.Call) (t : ℕ) → names_none M c t ≡ true → (s : ℕ) → s < t →
     M.footprint c s ≡ None
 names_none_at M c zero e s lt = absurd (omega (arith, lt))
 names_none_at M c (suc t) e s lt =
     let a = and_parts (is_none (M.footprint c t)) (names_none M c t) e in
-    elim (cases_lt s t) [ inl l ↦ names_none_at M c t a.1 s l | inr ge ↦ (let i : t ≡ s = omega arith in subst (λ j. M.footprint c j ≡ None) i (none_is (M.footprint c t) a.0)) ]
+    elim (cases_lt s t) [
+      | inl l ↦ names_none_at M c t a.1 s l
+      | inr ge ↦ (let i : t ≡ s = omega arith in subst (λ j. M.footprint c j ≡ None) i (none_is (M.footprint c t) a.0))
+    ]
 
 module _ (M : Model) (laws : Laws M) (start : ℕ → M.State) (unstaged : (s : ℕ) → Unstaged M s (start s)) (w : World M) (sound : Sound M start w) (finished : ℕ → Bool) (replies : ℕ → M.Reply) (finds : Finds M w finished replies) where
   -- an entered number that isn't finished is queued
@@ -41,12 +45,14 @@ module _ (M : Model) (laws : Laws M) (start : ℕ → M.State) (unstaged : (s : 
 
   done_entries : (n : ℕ) → finished n ≡ true → entries M done_logs n ≡ entries M (logs M w) n
   unfolding done_logs
-  done_entries n f = λ i s. only_only (λ e. eqb (M.number e) n) (λ e. finished (M.number e)) (w.shard s).log (λ e j. ap finished (eqb-true (M.number e) n j) ∙ f) i
+  done_entries n f = λ i s. only_only (λ e. eqb (M.number e) n) (λ e. finished (M.number e)) (w.shard s).log
+      (λ e j. ap finished (eqb-true (M.number e) n j) ∙ f) i
 
   has_done : (s : ℕ) (e : M.Entry) → Has (done_logs s) e → Has (w.shard s).log e × (finished (M.number e) ≡ true)
   unfolding done_logs
   has_done s e h = has_only (λ f. finished (M.number f)) (w.shard s).log e h
 
+  -- who has an entry there is finished
   has_some : (n t : ℕ) → some_entry M done_logs n t ≡ true → (s : ℕ) × (e : M.Entry) × Has (own M n (done_logs s)) e
   has_some n zero h = absurd (false≢true h)
   has_some n (suc t) h = elim (or_cases (not (is_nil (own M n (done_logs t)))) (some_entry M done_logs n t) h)
@@ -58,11 +64,13 @@ module _ (M : Model) (laws : Laws M) (start : ℕ → M.State) (unstaged : (s : 
       let o = has_own M n (done_logs v.0) v.1 v.2 in
       ap finished (sym o.1) ∙ (has_done v.0 v.1 o.0).1
 
+  -- an entry that is left out meets no other number behind it
   left : (s : ℕ) (e f : M.Entry) → Has (w.shard s).log e → Has (w.shard s).log f → Before M w.call s e f →
       finished (M.number e) ≡ false → M.number e ≢ M.number f → clash M w.call s (M.number e) (M.number f) ≡ false
   left s e f he hf b i ne = elim (cases_lt (M.number f) (M.number e)) [
     | inl lt ↦ b.lower lt
-    | inr ge ↦ (let q = waits s e he i in subst (λ m. clash M w.call s m (M.number f) ≡ false) q.2 ((sound.shards s).ahead q.0 f q.1 hf (omega (arith, q.2))))
+    | inr ge ↦
+        (let q = waits s e he i in subst (λ m. clash M w.call s m (M.number f) ≡ false) q.2 ((sound.shards s).ahead q.0 f q.1 hf (omega (arith, q.2))))
   ]
 
   within : (s : ℕ) → M.shards ≤ s → done_logs s ≡ []
@@ -94,6 +102,7 @@ module _ (M : Model) (laws : Laws M) (start : ℕ → M.State) (unstaged : (s : 
       go true f = yes f (some_entry M done_logs n M.shards) refl ∙ sym f
       go false f = no f (executed M w.call done_logs n) refl ∙ sym f
 
+  -- so these logs are recorded: what is left of each fits without the rest
   done_recorded : Recorded M w.call (pred w.counter) start done_logs replies
   unfolding done_logs
   done_recorded = record {

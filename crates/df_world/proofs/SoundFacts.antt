@@ -14,7 +14,8 @@ module _ (M : Model) (start : ℕ → M.State) (w : World M) (sound : Sound M st
 
   pub fresh_entry : (s n : ℕ) → w.phase s n ≡ Fresh → M.footprint (w.call n) s ≢ None → (t : ℕ) (e : M.Entry) →
       Has (w.shard t).log e → M.number e ≡ n → ⊥
-  fresh_entry s n fresh named t e h i = subst IsActive (ap (w.phase s) i ∙ fresh) (sound.active t e h s (subst (λ m. M.footprint (w.call m) s ≢ None) (sym i) named))
+  fresh_entry s n fresh named t e h i = subst IsActive (ap (w.phase s) i ∙ fresh)
+      (sound.active t e h s (subst (λ m. M.footprint (w.call m) s ≢ None) (sym i) named))
 
   -- who waits or ran was drawn
   pub place_drawn : (s : ℕ) (p : Place) → Has (w.shard s).queue p → (0 < p.number) × (p.number < w.counter)
@@ -28,7 +29,10 @@ module _ (M : Model) (start : ℕ → M.State) (w : World M) (sound : Sound M st
 
   -- a log past the last shard is empty
   pub entry_within : Laws M → (s : ℕ) (e : M.Entry) → Has (w.shard s).log e → s < M.shards
-  entry_within laws s e h = elim (cases_lt s M.shards) [ inl lt ↦ lt | inr ge ↦ absurd (sound.named s e h (laws.within (w.call (M.number e)) s ge)) ]
+  entry_within laws s e h = elim (cases_lt s M.shards) [
+    | inl lt ↦ lt
+    | inr ge ↦ absurd (sound.named s e h (laws.within (w.call (M.number e)) s ge))
+  ]
 
   -- who has an entry waits here, or ran all its hops
   pub waits_or_done : (s : ℕ) (e : M.Entry) → Has (w.shard s).log e →

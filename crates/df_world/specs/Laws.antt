@@ -13,8 +13,7 @@ use Rattle.df_world.specs.Invariant.{Invariant}
 
 abbrev pub FirstIsSound : Model → Type 0
 FirstIsSound M =
-    Laws M → (idle : M.Call) (start : ℕ → M.State) → ((s : ℕ) → Unstaged M s (start s)) →
-    Sound M start (first M idle start)
+    (idle : M.Call) (start : ℕ → M.State) → ((s : ℕ) → Unstaged M s (start s)) → Sound M start (first M idle start)
 
 abbrev pub EventsKeepSound : Model → Type 0
 EventsKeepSound M =

@@ -5,3 +5,4 @@ pub mod Sound
 pub mod Seen
 pub mod Invariant
 pub mod Laws
+pub mod Example

@@ -1,8 +1,11 @@
 //! Laws of a world, each the contract of a function that does nothing.
 
 ghost use Rattle.df_world.specs.Laws.{FirstIsSound, EventsKeepSound, EventsKeepInvariant, RunsKeepInvariant, RunsAreLegal, ListsRise, RunsAreSeen};
+ghost use Rattle.df_world.specs.Example.{BothRun};
+ghost use Rattle.df_order.specs.Counters.{counters};
 
 use df_order::Commands;
+use df_order::laws::Counters;
 
 /// A world without calls is sound.
 pub fn first_world_is_sound<C: Commands>()
@@ -31,3 +34,15 @@ pub fn runs_are_one_history<C: Commands>()
 pub fn numbers_are_above_what_was_seen<C: Commands>()
     ensures { RunsAreSeen C.model }
 {}
+
+/// Events do happen: two calls on one counter come, wait, run in their turn and leave.
+pub fn two_calls_run()
+    ensures { BothRun }
+{}
+
+/// A crate that has commands gets a law of them by one call, as here for the counters of df_order.
+pub fn counters_are_one_history()
+    ensures { RunsAreLegal counters }
+{
+    runs_are_one_history::<Counters>()
+}

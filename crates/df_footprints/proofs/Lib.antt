@@ -1,0 +1,2 @@
+pub mod ModesLaws
+pub mod ConflictLaws
