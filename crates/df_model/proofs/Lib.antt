@@ -3,6 +3,7 @@ pub mod LocalityLaws
 mod WordLaws
 pub mod CallLaws
 pub mod WholeLaws
+pub mod MembersLaws
 pub mod MoveLaws
 pub mod StoreLaws
 pub mod EncodingLaws

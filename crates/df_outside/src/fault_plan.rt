@@ -24,6 +24,7 @@ impl Model for FaultPlan {
 }
 
 impl FaultPlan {
+    /// The calls with these numbers, from 0, are to fail.
     pub(crate) fn new(fails: Vec<u64>) -> FaultPlan
         ensures { result ≡ plan_of fails.items }
     {

@@ -29,6 +29,7 @@ impl Model for Pieces {
 }
 
 impl Pieces {
+    /// All of these bytes are still to come.
     pub(crate) fn new(pieces: Bins) -> Pieces
         ensures { result ≡ record { taken = []; left = filled pieces.items } }
     {

@@ -39,12 +39,14 @@ impl Model for Puts {
 }
 
 impl Puts {
+    /// No content was put in place. Takes no memory.
     pub(crate) fn new() -> Puts
         ensures { result ≡ [] }
     {
         Puts { last: Last::None }
     }
 
+    /// This content was put in place after those before. Takes no memory.
     pub(crate) fn push(&mut self, content: &Bin)
         ensures { self.new ≡ self.old ++ content.now ∷ [] }
     {

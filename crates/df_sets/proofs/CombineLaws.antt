@@ -3,13 +3,11 @@ use Rattle.std.proofs.Common.{◌≡◌, Bool, true, false, ◌&&◌, ◌||◌, 
 use Rattle.std.proofs.lemmas.List.{take_all}
 use Rattle.std.specs.Borrow.{Bor}
 use Rattle.std.specs.Prelude.{Option, Some, None, is_some, not}
-use Rattle.std.specs.List.{list_any}
-use Rattle.std.specs.Ordering.{eq_by_cmp}
-use Rattle.std.specs.Cmp.Lexicographic.{nat_list_cmp_total}
 use Rattle.std.specs.FinMap as finmap
 use Rattle.df_model.specs.Values.{Bytes, Members}
-use Rattle.df_model.specs.Members.{empty, contains, insert, items, with_all, union, intersection, difference}
+use Rattle.df_model.specs.Members.{empty, contains, items, union, intersection, difference}
 use Rattle.df_model.specs.Meaning.Sets as sets
+use Rattle.df_model.proofs.MembersLaws.{same_members, in_with_all}
 use Rattle.df_colls.specs.Roomy.{order, RoomyMembers}
 use Rattle.df_colls.proofs.OrderLaws.{same_key}
 use Rattle.df_sets.specs.Combined.{combined, folded, lent_members}
@@ -17,16 +15,6 @@ use Rattle.df_sets.specs.declared.combination.Combine.{Combine}
 use Rattle.df_sets.specs.declared.combination.Combine.TheVariants.{Inter, Union, Diff}
 
 -- ---- members of what is made of two sets
-
--- two sets with the same members are one
-pub same_members : (s t : Members) → ((q : Bytes) → contains s q ≡ contains t q) → s ≡ t
-same_members s t h = finmap.same_map nat_list_cmp_total same_key s t (λ q. told (finmap.get s q) (finmap.get t q) (h q))
-  where
-    told : (a b : Option (Unit {0})) → is_some a ≡ is_some b → a ≡ b
-    told None None e = refl
-    told None (Some b) e = cc
-    told (Some a) None e = cc
-    told (Some a) (Some b) e = refl
 
 kept : (s : Members) (p : Bytes → Bool) (q : Bytes) → contains (finmap.retain_keys s p) q ≡ (contains s q && p q)
 kept s p q = ap is_some (finmap.get-retain_keys s p q (λ x e. ap p (sym (same_key q x e)))) ∙ both (p q) (finmap.get s q)
@@ -43,28 +31,8 @@ in_both s t q = kept s (contains t) q
 pub in_first : (s t : Members) (q : Bytes) → contains (difference s t) q ≡ (contains s q && not (contains t q))
 in_first s t q = kept s (λ m. not (contains t m)) q
 
-put_has : (s : Members) (m q : Bytes) → contains (insert s m) q ≡ (eq_by_cmp order q m || contains s q)
-put_has s m q = ap is_some (finmap.get-insert nat_list_cmp_total s m tt q) ∙ some_or (eq_by_cmp order q m) (finmap.get s q)
-  where
-    some_or : (b : Bool) (o : Option (Unit {0})) → is_some (cond b (Some tt) o) ≡ (b || is_some o)
-    some_or true o = refl
-    some_or false o = refl
-
-in_any : (ms : List Bytes) (s : Members) (q : Bytes) → contains (with_all ms s) q ≡ (contains s q || list_any (eq_by_cmp order q) ms)
-in_any [] s q = right (contains s q)
-  where
-    right : (a : Bool) → a ≡ (a || false)
-    right true = refl
-    right false = refl
-in_any (m ∷ ms) s q = in_any ms (insert s m) q ∙ ap (λ b. b || list_any (eq_by_cmp order q) ms) (put_has s m q) ∙ swap (eq_by_cmp order q m) (contains s q) (list_any (eq_by_cmp order q) ms)
-  where
-    swap : (a b c : Bool) → ((a || b) || c) ≡ (b || (a || c))
-    swap true true c = refl
-    swap true false c = refl
-    swap false b c = refl
-
 pub in_either : (s t : Members) (q : Bytes) → contains (union s t) q ≡ (contains s q || contains t q)
-in_either s t q = in_any (items t) s q ∙ ap (λ b. contains s q || b) (sym (finmap.contains_key-keys t q))
+in_either s t q = in_with_all (items t) s q ∙ ap (λ b. contains s q || b) (sym (finmap.contains_key-keys t q))
 
 none : (q : Bytes) → contains empty q ≡ false
 none q = ap is_some (finmap.get-empty order q)

@@ -13,12 +13,12 @@ use Rattle.df_model.specs.Outcomes.{settled, count}
 use Rattle.df_model.specs.Outcomes as outcomes
 use Rattle.df_model.specs.Meaning.Sets.{with_members, without_members, stored, sadd, srem}
 use Rattle.df_model.proofs.LocalityLaws.{equal}
+use Rattle.df_model.proofs.MembersLaws.{same_members}
 use Rattle.df_colls.specs.Roomy.{order}
 use Rattle.df_colls.specs.Counting.{Grown, Shrunk}
 use Rattle.df_colls.proofs.OrderLaws.{same_key}
 use Rattle.df_colls.proofs.CountLaws.{grown_none, grown_step, shrunk_none, shrunk_step}
 use Rattle.df_sets.specs.Counted.{Counted}
-use Rattle.df_sets.proofs.CombineLaws.{same_members}
 
 ties : (q m : Bytes) → eq_by_cmp order q m ≡ true → q ≡ m
 ties q m e = same_key q m (equal (order q m) e)

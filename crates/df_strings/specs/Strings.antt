@@ -14,20 +14,16 @@ use Rattle.df_values.specs.declared.change.Change.TheVariants as changes
 use Rattle.df_values.specs.declared.change.Prepared.{Prepared}
 use Rattle.df_values.specs.Seen.{seen}
 use Rattle.df_values.specs.Prepares.{Gives}
-use Rattle.df_model.specs.Families.{family_of}
 use Rattle.df_model.specs.declared.command.Family.{Family}
 use Rattle.df_model.specs.declared.command.Family.TheVariants as families
-use Rattle.df_model.specs.declared.command.OneOp.{OneOp}
 
-abbrev Here : Family → Type 0
-Here families.Any = Unit {0}
-Here families.Strings = Unit {0}
-Here families.Lists = ⊥
-Here families.Hashes = ⊥
-Here families.Sets = ⊥
-
-abbrev pub IsStringOp : OneOp → Type 0
-IsStringOp op = Here (family_of op)
+-- the families whose commands this crate does
+abbrev pub Serves : Family → Type 0
+Serves families.Any = Unit {0}
+Serves families.Strings = Unit {0}
+Serves families.Lists = ⊥
+Serves families.Hashes = ⊥
+Serves families.Sets = ⊥
 
 -- a value of another kind
 abbrev pub IsOther : plain.Value → Type 0

@@ -8,7 +8,8 @@ ghost use Rattle.df_model.specs.Replies.{encoding_of};
 ghost use Rattle.df_values.specs.Seen.{seen, seen_held};
 ghost use Rattle.df_values.specs.Lent.{lent, left};
 ghost use Rattle.df_values.specs.Prepares.{Gives};
-ghost use Rattle.df_strings.specs.Strings.{IsStringOp, IsOther};
+ghost use Rattle.df_strings.specs.Strings.{Serves, IsOther};
+ghost use Rattle.df_model.specs.Families.{family_of};
 
 use crate::counter::{decrby, incrby};
 use crate::part::{append, append_missing, getrange, setrange, setrange_missing};
@@ -20,7 +21,7 @@ use std::alloc::Global;
 
 /// Makes a command ready. The value is what the key holds; it gets room at most, also where memory runs out.
 pub fn prepare(alloc: Global, op: OneOp, value: Option<&mut Value>) -> Result<Prepared, NoMemory>
-    requires { IsStringOp op }
+    requires { Serves (family_of op) }
     ensures ok { IfOk result (λ prepared. Gives (outcome (one op) (seen_held (lent value.entry))) (left value.exit) prepared) }
     ensures kept { seen_held (left value.exit) ≡ seen_held (lent value.entry) }
 {
@@ -31,7 +32,7 @@ pub fn prepare(alloc: Global, op: OneOp, value: Option<&mut Value>) -> Result<Pr
 }
 
 fn held(alloc: Global, op: OneOp, value: &mut Value) -> Result<Prepared, NoMemory>
-    requires { IsStringOp op }
+    requires { Serves (family_of op) }
     ensures ok { IfOk result (λ prepared. Gives (outcome (one op) (Some (seen value.old))) (Some value.new) prepared) }
     ensures kept { seen value.new ≡ seen value.old }
 {
@@ -42,7 +43,7 @@ fn held(alloc: Global, op: OneOp, value: &mut Value) -> Result<Prepared, NoMemor
 }
 
 fn missing(alloc: Global, op: OneOp) -> Result<Prepared, NoMemory>
-    requires { IsStringOp op }
+    requires { Serves (family_of op) }
     ensures { IfOk result (λ prepared. Gives (outcome (one op) None) None prepared) }
 {
     match op {
@@ -71,7 +72,7 @@ fn missing(alloc: Global, op: OneOp) -> Result<Prepared, NoMemory>
 }
 
 fn on_text(alloc: Global, op: OneOp, text: &mut StrVal) -> Result<Prepared, NoMemory>
-    requires { IsStringOp op }
+    requires { Serves (family_of op) }
     ensures ok { IfOk result (λ prepared. Gives (outcome (one op) (Some (seen (Value.Str text.old)))) (Some (Value.Str text.new)) prepared) }
     ensures kept { text.new.items ≡ text.old.items }
 {
@@ -99,7 +100,7 @@ fn on_text(alloc: Global, op: OneOp, text: &mut StrVal) -> Result<Prepared, NoMe
 
 #[tactic(auto, using(crate::proofs::OtherLaws::looks_other, crate::proofs::OtherLaws::changes_other))]
 fn on_other(alloc: Global, op: OneOp, value: &Value) -> Result<Prepared, NoMemory>
-    requires op { IsStringOp op }
+    requires op { Serves (family_of op) }
     requires other { IsOther (seen value.now) }
     ensures { IfOk result (λ prepared. Gives (outcome (one op) (Some (seen value.now))) (Some value.now) prepared) }
 {

@@ -1,7 +1,8 @@
 //! That commands find their memory where there is enough, and a caller that does what was prepared.
 
 ghost use Rattle.std.specs.Prelude.{IfOk};
-ghost use Rattle.df_strings.specs.Strings.{IsStringOp};
+ghost use Rattle.df_strings.specs.Strings.{Serves};
+ghost use Rattle.df_model.specs.Families.{family_of};
 
 use crate::prepare;
 use df_model::{Bin, Guard, NoMemory, OneOp};
@@ -10,7 +11,7 @@ use std::alloc::Global;
 
 /// Does a command on a value. Answers the reply, and what the key holds then.
 fn done(alloc: Global, op: OneOp, mut value: Value) -> Result<(Pieces, Option<Value>), NoMemory>
-    requires { IsStringOp op }
+    requires { Serves (family_of op) }
 {
     let Prepared { reply, change } = prepare(alloc, op, Some(&mut value))?;
     match change {
@@ -25,7 +26,7 @@ fn done(alloc: Global, op: OneOp, mut value: Value) -> Result<(Pieces, Option<Va
 }
 
 fn command(alloc: Global, n: usize) -> Result<OneOp, NoMemory>
-    ensures { IfOk result IsStringOp }
+    ensures { IfOk result (λ op. Serves (family_of op)) }
 {
     match n {
         0 => Ok(OneOp::Append(Bin::from_slice(alloc, b"cd")?)),

@@ -102,6 +102,7 @@ impl Pieces {
 
 // Whole replies.
 impl Pieces {
+    /// One line of text, as a status.
     pub fn of_simple(alloc: Global, text: &[u8]) -> Result<Pieces, NoMemory>
         ensures { IfOk result (λ pieces. pieces ≡ encoding_of (Simple text.now)) }
     {
@@ -117,6 +118,7 @@ impl Pieces {
         Pieces::of_simple(alloc, b"OK")
     }
 
+    /// An error's line.
     pub fn of_error(alloc: Global, error: &ErrorText) -> Result<Pieces, NoMemory>
         ensures { IfOk result (λ pieces. pieces ≡ encoding_of (ErrorReply error.now)) }
     {
@@ -125,6 +127,7 @@ impl Pieces {
         Ok(pieces)
     }
 
+    /// A number.
     pub fn of_int(alloc: Global, n: i64) -> Result<Pieces, NoMemory>
         ensures { IfOk result (λ pieces. pieces ≡ encoding_of (Int n)) }
     {
@@ -133,6 +136,7 @@ impl Pieces {
         Ok(pieces)
     }
 
+    /// A count, as a number.
     pub fn of_count(alloc: Global, n: usize) -> Result<Pieces, NoMemory>
         ensures { IfOk result (λ pieces. pieces ≡ encoding_of (outcomes.count n)) }
     {
@@ -141,6 +145,7 @@ impl Pieces {
         Ok(pieces)
     }
 
+    /// A byte string with its length in front.
     pub fn of_bulk(alloc: Global, bytes: &[u8]) -> Result<Pieces, NoMemory>
         ensures { IfOk result (λ pieces. pieces ≡ encoding_of (Bulk bytes.now)) }
     {

@@ -38,6 +38,7 @@ impl Model for Rest {
 }
 
 impl Rest {
+    /// No bytes. Takes no memory.
     pub fn new(alloc: Global) -> Rest
         ensures { result ≡ [] }
     {
@@ -48,12 +49,14 @@ impl Rest {
         }
     }
 
+    /// Whether there are no bytes.
     pub fn is_empty(&self) -> bool
         ensures { IsTrue result ↔ (self.now ≡ []) }
     {
         self.len() == 0
     }
 
+    /// How many bytes there are.
     pub fn len(&self) -> usize
         ensures len { result ≡ length self.now }
         ensures bound { result < 2 ^ 62 + 2 ^ 63 }
@@ -61,6 +64,7 @@ impl Rest {
         self.kept_len + self.tail.len()
     }
 
+    /// Adds bytes at the end, or at want of memory nothing.
     pub fn add(&mut self, bytes: &[u8]) -> Result<(), NoMemory>
         ensures ok { OnOk result (self.new ≡ self.old ++ bytes.now) }
         ensures err { OnErr result (self.new ≡ self.old) }
@@ -81,12 +85,14 @@ impl Rest {
         Ok(())
     }
 
+    /// Adds a byte string with its length in front.
     pub fn add_bulk(&mut self, bytes: &[u8]) -> Result<(), NoMemory>
         ensures { OnOk result (self.new ≡ self.old ++ encoding_of (Bulk bytes.now)) }
     {
         encode_bulk(bytes, &mut self.tail)
     }
 
+    /// Adds an error's line.
     pub fn add_error(&mut self, error: &ErrorText) -> Result<(), NoMemory>
         ensures { OnOk result (self.new ≡ self.old ++ encoding_of (ErrorReply error.now)) }
     {

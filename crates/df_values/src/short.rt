@@ -27,6 +27,7 @@ impl Model for Short {
 }
 
 impl Short {
+    /// No bytes. Takes no memory.
     pub fn new() -> Short
         ensures { result ≡ [] }
     {
@@ -36,6 +37,7 @@ impl Short {
         }
     }
 
+    /// How many bytes there are.
     pub fn len(&self) -> usize
         ensures len { result ≡ length self.now }
         ensures bound { result ≤ 40 }
@@ -50,12 +52,14 @@ impl Short {
         ROOM - self.len
     }
 
+    /// The bytes, lent.
     pub fn as_slice(&self) -> &[u8]
         ensures { result.now ≡ self.now }
     {
         &self.bytes[..self.len]
     }
 
+    /// Adds bytes at the end. Takes no memory.
     pub fn add(&mut self, more: &[u8])
         requires { length self.old + length more.now ≤ 40 }
         ensures { self.new ≡ self.old ++ more.now }
@@ -65,6 +69,7 @@ impl Short {
         self.len = end;
     }
 
+    /// Adds one line behind its mark.
     pub fn add_line(&mut self, mark: &[u8], text: &[u8])
         requires { length self.old + length mark.now + length text.now + 2 ≤ 40 }
         ensures { self.new ≡ self.old ++ (mark.now ++ text.now ++ crlf) }
