@@ -16,6 +16,7 @@ use Rattle.df_core.proofs.StepLaws.{after_all, ToldAll, after_entries}
 use Rattle.df_core.proofs.CallLaws.{entries_compose}
 use Rattle.df_core.proofs.DueLaws as due
 use Rattle.df_core.proofs.DueGives as gives
+use Rattle.df_core.proofs.DueQuick as quick
 use Rattle.df_core.proofs.SwapLaws as swaps
 use Rattle.df_footprints.proofs.ConflictLaws.{conflicts_comm}
 use Rattle.df_model.specs.Calls.{Allowed}
@@ -53,8 +54,8 @@ calls_laws shards pos = record {
   within = λ c s le. due.within shards c s le;
   none_whole = λ c es none empty. gives.none_whole shards pos c (λ t. steps_of (es t)) (λ s lt. names_none_at (calls shards) c shards none s lt) (λ s. ap steps_of (empty s));
   whole_some = λ c es done empty. none_named shards c shards (gives.whole_some shards pos c (λ t. steps_of (es t)) done.0 done.1 (λ s. ap steps_of (empty s)));
-  quick_one = λ c s t q a b. gives.quick_one shards c s t q a b;
-  quick_whole = λ c es es' s e q next here there. gives.quick_whole shards c es es' s e next.answer.0 q next.due next.answer.1 (next.first q) here there;
+  quick_one = λ c s t q a b. quick.quick_one shards c s t q a b;
+  quick_whole = λ c es es' s e q next here there. quick.quick_whole shards c es es' s e next.answer.0 q next.due next.answer.1 (next.first q) here there;
   good_own = swaps.good_own shards;
   good_other = swaps.good_other shards;
   slot_other = swaps.slot_other;

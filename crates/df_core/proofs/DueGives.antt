@@ -1,18 +1,12 @@
--- Calls that are complete: those that name no shard, those of one hop, and what stays staged behind the last.
-use Rattle.std.proofs.Common.{◌≡◌, ◌≢◌, ◌⊎◌, inl, inr, ℕ, zero, suc, ◌*◌, ◌/◌, ◌%◌, ◌<◌, ◌≤◌, ◌++◌, Bool, true, false, cond, not, ◌&&◌, nat_lt, length, map, List, [], ◌∷◌, refl, sym, ap, ◌∙◌, subst, arith, append-nil}
-use Rattle.std.specs.Prelude.{Option, Some, None, ◌==◌, eqb}
-use Rattle.std.proofs.lemmas.Bool.{false≢true, true≢false, and_parts, cases_lt, cond_both, eqb-true, eq-eqb, ltb-true, lt-ltb}
+-- Calls that are complete: those that have no hop, and what stays staged behind the last.
+use Rattle.std.proofs.Common.{◌≡◌, ◌≢◌, inl, inr, ℕ, suc, ◌<◌, ◌++◌, Bool, true, false, cond, not, nat_lt, List, [], ◌∷◌, refl, sym, ap, ◌∙◌, subst}
+use Rattle.std.specs.Prelude.{Option, Some, None}
+use Rattle.std.proofs.lemmas.Bool.{false≢true, true≢false, cases_lt, eq-eqb, ltb-true, lt-ltb}
 use Rattle.std.proofs.lemmas.Bool.Decides.{eqb_tells}
-use Rattle.std.specs.FinMap as fin
-use Rattle.df_model.specs.Values.{Bytes}
 use Rattle.df_model.specs.Keyspace.{Keyspace, no_keys}
 use Rattle.df_model.specs.Meaning.{meaning}
-use Rattle.df_model.specs.Outcomes.{ok}
 use Rattle.df_model.specs.Spared.{all_of}
-use Rattle.df_model.specs.declared.command.WholeOp.{WholeOp}
-use Rattle.df_model.specs.declared.command.WholeOp.TheVariants as wholes
 use Rattle.df_model.specs.declared.command.Command.{Command}
-use Rattle.df_model.specs.declared.command.Command.TheVariants.{Plain, One, Many, Whole, Wrong}
 use Rattle.df_model.specs.declared.command.Call.{Call}
 use Rattle.df_model.specs.declared.command.Call.TheVariants.{Single, Exec}
 use Rattle.df_model.specs.declared.reply.Reply.{Reply}
@@ -21,36 +15,17 @@ use Rattle.df_model.specs.declared.keys.Keys.{Keys}
 use Rattle.df_footprints.specs.Footprints.{commands_of, footprint_of, footprint_of_commands}
 use Rattle.df_order.specs.Lists.{Has}
 use Rattle.df_order.proofs.Puts.{put_same}
-use Rattle.df_log.specs.Acts.{Changes, Act, Run, Read, Stage, Apply, Unstage, Begin, Walk, Count, Clear, Told, Ran, Number, Cut, NoMemory}
-use Rattle.df_log.specs.Acts as acts
-use Rattle.df_log.specs.Parts.{Part, own_keys, IsTold, did, staged_after, after_act}
-use Rattle.df_log.specs.declared.entry.Entry.{Entry}
-use Rattle.df_core.specs.Altered.{altered}
+use Rattle.df_log.specs.Acts.{Changes, Run, Ran, NoMemory}
+use Rattle.df_log.specs.Parts.{Part, did, staged_after, after_act}
 use Rattle.df_core.specs.Courses.{Course, Nowhere, Alone, Spread, Counts, Cuts, Clears, course_of, keys_on, changes_on, are_quick, is_quick, has_hop}
 use Rattle.df_core.specs.Courses as courses
-use Rattle.df_core.specs.Due.{every, is_nil, first_due, due_by, may_end_by, due_from, IsNext, second_wanted}
-use Rattle.df_core.specs.Steps.{Step, step_of, steps_of, after_steps}
-use Rattle.df_core.specs.Done.{want_of_memory, first_step, stage_step, apply_step, unstage_step, read_step, Shows, Stops, Undoes, OnEach, Wanted, Done, DoneAll, Gives}
-use Rattle.df_core.proofs.DueModes.{On, on_asks, asks_on, hop_on, on_hop, quick_on, spread_keys, names_whole, counts_whole, cuts_whole}
-use Rattle.df_core.proofs.DueLaws.{none_some, cond_some, either_some, first_due_is, due_within, due_of_commands}
+use Rattle.df_core.specs.Due.{is_nil}
+use Rattle.df_core.specs.Steps.{Step, after_steps}
+use Rattle.df_core.specs.Done.{first_step, Shows, Stops, Undoes, OnEach, Done, DoneAll, Gives}
+use Rattle.df_core.proofs.DueModes.{on_asks, on_where_asked, hop_on, on_hop, spread_keys}
+use Rattle.df_core.proofs.DueLaws.{none_some}
 
--- ---- quick calls
-
-tail_none : (b q h n m k : Bool) → b ≡ true → cond b (q && cond h false n) m ≡ true → (h ≡ false) × (cond b (q && n) k ≡ true)
-tail_none true true true n m k e f = absurd (false≢true f)
-tail_none true true false n m k e f = (refl, f)
-tail_none true false h n m k e f = absurd (false≢true f)
-tail_none false q h n m k e f = absurd (false≢true e)
-
-quick_head : (b q n m : Bool) → b ≡ true → cond b (q && n) m ≡ true → q ≡ true
-quick_head true q n m e f = (and_parts q n f).0
-quick_head false q n m e f = absurd (false≢true e)
-
-quick_skip : (b x m : Bool) → b ≡ false → cond b x m ≡ true → m ≡ true
-quick_skip true x m e f = absurd (true≢false e)
-quick_skip false x m e f = f
-
-no_hop : (course : Course) → has_hop course ≡ false → course ≡ Nowhere
+pub no_hop : (course : Course) → has_hop course ≡ false → course ≡ Nowhere
 no_hop Nowhere e = refl
 no_hop (Alone s) e = absurd (true≢false e)
 no_hop Spread e = absurd (true≢false e)
@@ -60,61 +35,16 @@ no_hop Cuts e = absurd (true≢false e)
 no_hop Clears e = absurd (true≢false e)
 
 -- the command has no hop
-abbrev Hopless : ℕ → Command → Type 0
+abbrev pub Hopless : ℕ → Command → Type 0
 Hopless shards command = has_hop (course_of shards command) ≡ false
 
-module _ (shards : ℕ) where
-  -- behind the one command with a hop stand none
-  none_behind_quick : (c : Command) (commands : List Command) → has_hop (course_of shards c) ≡ true → are_quick shards (c ∷ commands) ≡ true → (d : Command) → Has commands d → Hopless shards d
-  none_behind_quick c [] e q d h = absurd h
-  none_behind_quick c (x ∷ commands) e q d h =
-      let v = tail_none (has_hop (course_of shards c)) (is_quick shards (course_of shards c)) (has_hop (course_of shards x)) _ _ (are_quick shards commands) e q in
-      elim h [
-        | inl i ↦ ap (λ y. has_hop (course_of shards y)) (sym i) ∙ v.0
-        | inr k ↦ none_behind_quick c commands e v.1 d k
-      ]
-
-  -- a quick call has one command with a hop
-  quick_split : (commands : List Command) → are_quick shards commands ≡ true
-      → (c : Command) × Has commands c × (is_quick shards (course_of shards c) ≡ true) × ((d : Command) → Has commands d → has_hop (course_of shards d) ≡ true → d ≡ c)
-  quick_split [] e = absurd (false≢true e)
-  quick_split (c ∷ commands) e = go (has_hop (course_of shards c)) refl (quick_split commands)
-    where
-      go : (b : Bool) → has_hop (course_of shards c) ≡ b
-          → (are_quick shards commands ≡ true → (x : Command) × Has commands x × (is_quick shards (course_of shards x) ≡ true) × ((d : Command) → Has commands d → has_hop (course_of shards d) ≡ true → d ≡ x))
-          → (x : Command) × Has (c ∷ commands) x × (is_quick shards (course_of shards x) ≡ true) × ((d : Command) → Has (c ∷ commands) d → has_hop (course_of shards d) ≡ true → d ≡ x)
-      go true i more = (
-        c,
-        inl refl,
-        quick_head (has_hop (course_of shards c)) (is_quick shards (course_of shards c)) _ _ i e,
-        λ d h k. elim h [ inl j ↦ sym j | inr m ↦ absurd (false≢true (sym (none_behind_quick c commands i e d m) ∙ k)) ],
-      )
-      go false i more =
-          let v = more (quick_skip (has_hop (course_of shards c)) _ (are_quick shards commands) i e) in (
-            v.0,
-            inr v.1,
-            v.2,
-            λ d h k. elim h [ inl j ↦ absurd (false≢true (sym i ∙ ap (λ y. has_hop (course_of shards y)) j ∙ k)) | inr m ↦ v.3 d m k ],
-          )
-
-  asked : (call : Call) (s : ℕ) → footprint_of shards call s ≢ None → (s < shards) × (footprint_of_commands shards s (commands_of call) ≢ None)
-  asked call s h = go (nat_lt s shards) refl h
-    where
-      go : (b : Bool) → nat_lt s shards ≡ b → cond b (footprint_of_commands shards s (commands_of call)) None ≢ None → (s < shards) × (footprint_of_commands shards s (commands_of call) ≢ None)
-      go true e k = (ltb-true s shards e, k)
-      go false e k = absurd (k refl)
-
-  -- a quick call asks for something on one shard
-  pub quick_one : (call : Call) (s t : ℕ) → are_quick shards (commands_of call) ≡ true → footprint_of shards call s ≢ None → footprint_of shards call t ≢ None → t ≡ s
-  quick_one call s t q hs ht =
-      let v = quick_split (commands_of call) q in
-      let here = asked call s hs in
-      let there = asked call t ht in
-      let a = asks_on shards s (commands_of call) here.1 in
-      let b = asks_on shards t (commands_of call) there.1 in
-      quick_on shards s t v.0 v.2 here.0 there.0
-      (subst (On shards s) (v.3 a.0 a.1 (on_hop shards s a.0 a.2)) a.2)
-      (subst (On shards t) (v.3 b.0 b.1 (on_hop shards t b.0 b.2)) b.2)
+-- where a call asks for something there is a shard
+pub asked : (shards : ℕ) (call : Call) (s : ℕ) → footprint_of shards call s ≢ None → (s < shards) × (footprint_of_commands shards s (commands_of call) ≢ None)
+asked shards call s h = go (nat_lt s shards) refl h
+  where
+    go : (b : Bool) → nat_lt s shards ≡ b → cond b (footprint_of_commands shards s (commands_of call)) None ≢ None → (s < shards) × (footprint_of_commands shards s (commands_of call) ≢ None)
+    go true e k = (ltb-true s shards e, k)
+    go false e k = absurd (k refl)
 
 -- ---- calls with no hop
 
@@ -125,14 +55,14 @@ nil_parts (x ∷ xs) ys e = absurd (true≢false (ap (λ l. not (is_nil l)) e))
 cons_nil : {X : Type 0} {A : Type 0} (x : X) (xs : List X) → x ∷ xs ≡ [] → A
 cons_nil x xs e = absurd (true≢false (ap (λ l. not (is_nil l)) e))
 
-none_done : (shards i : ℕ) (commands : List Command) (steps : ℕ → List Step) → ((d : Command) → Has commands d → Hopless shards d) → ((s : ℕ) → steps s ≡ [])
+pub none_done : (shards i : ℕ) (commands : List Command) (steps : ℕ → List Step) → ((d : Command) → Has commands d → Hopless shards d) → ((s : ℕ) → steps s ≡ [])
     → (marks : List Bool) × (replies : List Reply) × DoneAll shards i commands steps marks replies
 none_done shards i [] steps none h = ([], [], h)
 none_done shards i (c ∷ commands) steps none h =
     let v = none_done shards (suc i) commands steps (λ d k. none d (inr k)) h in
     (false ∷ v.0, (meaning c no_keys).0 ∷ v.1, ((λ s. []), steps, (λ s. refl), Done.nowhere (no_hop (course_of shards c) (none c (inl refl))) (λ s. refl), v.2))
 
-gives_of : (shards : ℕ) (call : Call) (steps : ℕ → List Step) (marks : List Bool) (replies : List Reply) → DoneAll shards 0 (commands_of call) steps marks replies → (r : Reply) × Gives shards call steps r
+pub gives_of : (shards : ℕ) (call : Call) (steps : ℕ → List Step) (marks : List Bool) (replies : List Reply) → DoneAll shards 0 (commands_of call) steps marks replies → (r : Reply) × Gives shards call steps r
 gives_of shards (Single command) steps [] replies d = absurd d
 gives_of shards (Single command) steps (kept ∷ marks) [] d = absurd d
 gives_of shards (Single command) steps (kept ∷ []) (reply ∷ []) d = (reply, (kept, d))
@@ -140,7 +70,7 @@ gives_of shards (Single command) steps (kept ∷ m ∷ marks) (reply ∷ replies
 gives_of shards (Single command) steps (kept ∷ []) (reply ∷ r ∷ replies) d = absurd d.4
 gives_of shards (Exec commands) steps marks replies d = (Array (all_of replies), (marks, replies, refl, d))
 
-of_gives : (shards : ℕ) (call : Call) (steps : ℕ → List Step) (r : Reply) → Gives shards call steps r → (marks : List Bool) × (replies : List Reply) × DoneAll shards 0 (commands_of call) steps marks replies
+pub of_gives : (shards : ℕ) (call : Call) (steps : ℕ → List Step) (r : Reply) → Gives shards call steps r → (marks : List Bool) × (replies : List Reply) × DoneAll shards 0 (commands_of call) steps marks replies
 of_gives shards (Single command) steps r g = (g.0 ∷ [], r ∷ [], g.1)
 of_gives shards (Exec commands) steps r g = (g.0, g.1, g.3)
 
@@ -217,125 +147,9 @@ module _ (shards : ℕ) (pos : 0 < shards) where
       go None e = refl
       go (Some keys) e =
           let a = asked shards call s (λ i. none_some keys (sym i ∙ e)) in
-          let v = asks_on shards s (commands_of call) a.1 in
+          let v = on_where_asked shards s (commands_of call) a.1 in
           let d = of_gives shards call steps r g in
           absurd (false≢true (sym (done_none 0 (commands_of call) steps d.0 d.1 d.2 h v.0 v.1) ∙ on_hop shards s v.0 v.2))
-
--- ---- a quick call is complete behind its one hop
-
-run_told : (shards s : ℕ) (K : Keyspace) (command : Command) (told : Told) → IsTold shards s K (Run command) told → ((reply : Reply) × (told ≡ Ran reply)) ⊎ (told ≡ NoMemory)
-run_told shards s K command _ (IsTold.ran c) = inl ((meaning c K).0, refl)
-run_told shards s K command _ (IsTold.wanted act h) = inr refl
-
-walk_told : (shards s : ℕ) (K : Keyspace) (told : Told) → IsTold shards s K Walk told → ((names : List Bytes) × (told ≡ acts.Names names)) ⊎ (told ≡ NoMemory)
-walk_told shards s K _ IsTold.walked = inl (fin.keys (own_keys shards s K), refl)
-walk_told shards s K _ (IsTold.wanted act h) = inr refl
-
-count_told : (shards s : ℕ) (K : Keyspace) (told : Told) → IsTold shards s K Count told → ((n : ℕ) × (told ≡ Number n)) ⊎ (told ≡ NoMemory)
-count_told shards s K _ IsTold.counted = inl (fin.len (own_keys shards s K), refl)
-count_told shards s K _ (IsTold.wanted act h) = inr refl
-
-begin_told : (shards s : ℕ) (K : Keyspace) (told : Told) → IsTold shards s K Begin told → (pairs : Keyspace) × (told ≡ Cut pairs)
-begin_told shards s K _ IsTold.began = (own_keys shards s K, refl)
-begin_told shards s K _ (IsTold.wanted act h) = absurd (false≢true h)
-
-abbrev no_step : ℕ → List Step
-no_step t = []
-
--- one step on one shard, told what it gives
-module _ (shards s : ℕ) (st : Step) (steps : ℕ → List Step) (K : Keyspace) (within : s < shards) (told : IsTold shards s K st.act st.told)
-    (here : steps s ≡ st ∷ []) (there : (t : ℕ) → t ≢ s → steps t ≡ []) where
-  is_first : (i : ℕ) (act : Act) (answer : Told) → st.hop ≡ 4 * i → act ≡ st.act → st.told ≡ answer → steps s ≡ first_step i act answer ∷ []
-  is_first i act answer p q r = here ∙ λ j. record { hop = p j; act = sym q j; told = r j } ∷ []
-
-  -- with one shard it is that of each
-  on_one : (x : Step) → shards ≡ 1 → steps s ≡ x ∷ [] → OnEach shards steps (λ t. x ∷ [])
-  on_one x one e = record {
-    within = λ t lt. subst (λ u. steps u ≡ x ∷ []) (omega (arith, one, within, lt)) e;
-    beyond = λ t ge. there t (λ i. omega (arith, within, ge, i));
-  }
-
-  never_ended : (command : Command) (course : Course) → is_quick shards course ≡ true → may_end_by shards command course no_step ≡ true → ⊥
-  never_ended command Nowhere q e = false≢true q
-  never_ended command (Alone t) q e = false≢true e
-  never_ended command Spread q e = false≢true q
-  never_ended command courses.Names q e = false≢true (subst (λ n. every (λ t. false) n ≡ true) (eqb-true shards 1 q) e)
-  never_ended command Counts q e = false≢true (subst (λ n. every (λ t. false) n ≡ true) (eqb-true shards 1 q) e)
-  never_ended command Cuts q e = false≢true (subst (λ n. every (λ t. false) n ≡ true) (eqb-true shards 1 q) e)
-  never_ended command Clears q e = false≢true q
-
-  -- the one hop of a command is all that it has to do
-  hit : (i : ℕ) (command : Command) (course : Course) → course_of shards command ≡ course → is_quick shards course ≡ true → st.hop / 4 ≡ i
-      → due_by shards command course no_step s (st.hop % 4) ≡ Some st.act → (kept : Bool) × (reply : Reply) × Done shards i command steps kept reply
-  hit i command Nowhere e q at due = absurd (false≢true q)
-  hit i command (Alone t) e q at due =
-      let p = cond_some (t == s) (first_due (Run command) [] (st.hop % 4)) st.act due in
-      let f = first_due_is (Run command) st.act [] (st.hop % 4) p.1 in
-      let alone : course_of shards command ≡ Alone s = e ∙ ap Alone (eqb-true t s p.0) in
-      let hop : st.hop ≡ 4 * i = omega (arith, at, f.0) in
-      elim (run_told shards s K command st.told (subst (λ a. IsTold shards s K a st.told) (sym f.2) told)) [
-        | inl r ↦ (true, r.0, Done.ran s r.0 alone (is_first i (Run command) (Ran r.0) hop f.2 r.1) there)
-        | inr w ↦ (false, want_of_memory, Done.run_wanted s alone (is_first i (Run command) NoMemory hop f.2 w) there)
-      ]
-  hit i command Spread e q at due = absurd (false≢true q)
-  hit i command courses.Names e q at due =
-      let f = first_due_is Walk st.act [] (st.hop % 4) due in
-      let c = names_whole shards command e in
-      let hop : st.hop ≡ 4 * i = omega (arith, at, f.0) in
-      elim (walk_told shards s K st.told (subst (λ a. IsTold shards s K a st.told) (sym f.2) told)) [
-        | inl r ↦ (false, _, Done.names c.0 (λ t. r.0) c.1 (on_one (first_step i Walk (acts.Names r.0)) (eqb-true shards 1 q) (is_first i Walk (acts.Names r.0) hop f.2 r.1)))
-        | inr w ↦ (false, want_of_memory, Done.names_wanted c.0 (λ t. NoMemory) c.1 (on_one (first_step i Walk NoMemory) (eqb-true shards 1 q) (is_first i Walk NoMemory hop f.2 w)) (s, within, refl))
-      ]
-  hit i command Counts e q at due =
-      let f = first_due_is Count st.act [] (st.hop % 4) due in
-      let c = counts_whole shards command e in
-      let hop : st.hop ≡ 4 * i = omega (arith, at, f.0) in
-      elim (count_told shards s K st.told (subst (λ a. IsTold shards s K a st.told) (sym f.2) told)) [
-        | inl r ↦ (false, _, Done.counts (λ t. r.0) c (on_one (first_step i Count (Number r.0)) (eqb-true shards 1 q) (is_first i Count (Number r.0) hop f.2 r.1)))
-        | inr w ↦ (false, want_of_memory, Done.counts_wanted (λ t. NoMemory) c (on_one (first_step i Count NoMemory) (eqb-true shards 1 q) (is_first i Count NoMemory hop f.2 w)) (s, within, refl))
-      ]
-  hit i command Cuts e q at due =
-      let f = first_due_is Begin st.act [] (st.hop % 4) due in
-      let hop : st.hop ≡ 4 * i = omega (arith, at, f.0) in
-      let r = begin_told shards s K st.told (subst (λ a. IsTold shards s K a st.told) (sym f.2) told) in
-      (false, ok, Done.cuts (λ t. r.0) ok (cuts_whole shards command e) (on_one (first_step i Begin (Cut r.0)) (eqb-true shards 1 q) (is_first i Begin (Cut r.0) hop f.2 r.1)) (inl refl))
-  hit i command Clears e q at due = absurd (false≢true q)
-
-  quick_from : (i : ℕ) (commands : List Command) → are_quick shards commands ≡ true → due_from shards i commands no_step s st.hop ≡ Some st.act
-      → (marks : List Bool) × (replies : List Reply) × DoneAll shards i commands steps marks replies
-  quick_from i [] q due = absurd (none_some st.act due)
-  quick_from i (c ∷ commands) q due = go (has_hop (course_of shards c)) refl (quick_from (suc i) commands)
-    where
-      go : (b : Bool) → has_hop (course_of shards c) ≡ b
-          → (are_quick shards commands ≡ true → due_from shards (suc i) commands no_step s st.hop ≡ Some st.act → (marks : List Bool) × (replies : List Reply) × DoneAll shards (suc i) commands steps marks replies)
-          → (marks : List Bool) × (replies : List Reply) × DoneAll shards i (c ∷ commands) steps marks replies
-      go false e more = elim (either_some (st.hop / 4 == i) (may_end_by shards c (course_of shards c) no_step)
-          (due_by shards c (course_of shards c) no_step s (st.hop % 4)) (due_from shards (suc i) commands no_step s st.hop) st.act due) [
-        | inl d ↦ absurd (none_some st.act (sym (ap (λ k. due_by shards c k no_step s (st.hop % 4)) (no_hop (course_of shards c) e)) ∙ d.1))
-        | inr d ↦ (
-            let v = more (quick_skip (has_hop (course_of shards c)) _ (are_quick shards commands) e q) d.1 in
-            (false ∷ v.0, (meaning c no_keys).0 ∷ v.1, ((λ t. []), steps, (λ t. refl), Done.nowhere (no_hop (course_of shards c) e) (λ t. refl), v.2)))
-      ]
-      go true e more =
-          let quick = quick_head (has_hop (course_of shards c)) (is_quick shards (course_of shards c)) _ _ e q in
-          elim (either_some (st.hop / 4 == i) (may_end_by shards c (course_of shards c) no_step)
-          (due_by shards c (course_of shards c) no_step s (st.hop % 4)) (due_from shards (suc i) commands no_step s st.hop) st.act due) [
-            | inl d ↦ (
-                let h = hit i c (course_of shards c) refl quick (eqb-true (st.hop / 4) i d.0) d.1 in
-                let v = none_done shards (suc i) commands no_step (none_behind_quick shards c commands e q) (λ t. refl) in
-                (h.0 ∷ v.0, h.1 ∷ v.1, (steps, no_step, (λ t. sym (append-nil (steps t))), h.2, v.2)))
-            | inr d ↦ absurd (never_ended c (course_of shards c) quick d.0)
-          ]
-
--- a quick call is complete behind its next hop, where that was told what it gives and nothing ran before
-pub quick_whole : (shards : ℕ) (call : Call) (es es' : ℕ → List Entry) (s : ℕ) (e : Entry) (K : Keyspace) → are_quick shards (commands_of call) ≡ true → IsNext shards call es s e
-    → IsTold shards s K e.act e.told → ((t : ℕ) → es t ≡ []) → es' s ≡ es s ++ e ∷ [] → ((t : ℕ) → t ≢ s → es' t ≡ es t) → (r : Reply) × Gives shards call (λ t. steps_of (es' t)) r
-quick_whole shards call es es' s e K q next told none here there =
-    let bare : (λ t. steps_of (es t)) ≡ (λ t. []) = λ j t. steps_of (none t j) in
-    let v = quick_from shards s (step_of e) (λ t. steps_of (es' t)) K (due_within shards call (λ t. steps_of (es t)) s e.hop e.act next) told
-        (ap steps_of (here ∙ ap (λ l. l ++ e ∷ []) (none s))) (λ t ne. ap steps_of (there t ne ∙ none t)) 0 (commands_of call) q
-        (subst (λ f. due_from shards 0 (commands_of call) f s e.hop ≡ Some e.act) bare (due_of_commands shards call (λ t. steps_of (es t)) s e.hop e.act next)) in
-    gives_of shards call (λ t. steps_of (es' t)) v.0 v.1 v.2
 
 -- ---- where all hops ran nothing is staged
 

@@ -1,14 +1,13 @@
 -- What is due belongs to its call, stands on a shard of it, and lies behind the hops that were taken.
-use Rattle.std.proofs.Common.{◌≡◌, ◌≢◌, ◌⊎◌, inl, inr, ℕ, zero, suc, ◌*◌, ◌/◌, ◌%◌, ◌<◌, ◌≤◌, Bool, true, false, cond, not, ◌&&◌, nat_lt, length, map, List, [], ◌∷◌, refl, sym, ap, ◌∙◌, subst, arith}
+use Rattle.std.proofs.Common.{◌≡◌, ◌≢◌, ◌⊎◌, inl, inr, ℕ, zero, suc, ◌/◌, ◌%◌, ◌<◌, ◌≤◌, Bool, true, false, cond, not, ◌&&◌, nat_lt, length, List, [], ◌∷◌, refl, sym, ap, ◌∙◌, subst}
 use Rattle.std.specs.Prelude.{Option, Some, None, ◌==◌, is_some}
-use Rattle.std.proofs.lemmas.Bool.{false≢true, true≢false, and_parts, ltb-true, ltb-false, lt-ltb, le-ltb, eqb-true, cases_Bool}
+use Rattle.std.proofs.lemmas.Bool.{false≢true, and_parts, ltb-true, lt-ltb, le-ltb, eqb-true}
 use Rattle.std.proofs.lemmas.Option.{same_Some}
 use Rattle.df_model.specs.Keyspace.{Keyspace}
 use Rattle.df_model.specs.Meaning.{meaning}
-use Rattle.df_model.specs.Values.{Bytes, Value}
 use Rattle.df_model.specs.declared.command.Command.{Command}
 use Rattle.df_model.specs.declared.command.Call.{Call}
-use Rattle.df_footprints.specs.Footprints.{commands_of, footprint_of, footprint_of_commands, whole_mode}
+use Rattle.df_footprints.specs.Footprints.{commands_of, footprint_of, footprint_of_commands}
 use Rattle.df_order.specs.Lists.{Has}
 use Rattle.df_log.specs.Acts.{Act, Run, Read, Stage, Apply, Unstage, Begin, Walk, Count, Clear}
 use Rattle.df_log.specs.declared.entry.Entry.{Entry}
@@ -17,8 +16,8 @@ use Rattle.df_core.specs.Belongs.{MayDo, Belongs}
 use Rattle.df_core.specs.Courses.{Course, Nowhere, Alone, Spread, Counts, Cuts, Clears, course_of, keys_on, changes_on, are_quick, is_quick, has_hop}
 use Rattle.df_core.specs.Courses as courses
 use Rattle.df_core.specs.Due.{every, is_nil, first_due, spread_due, clear_due, due_by, may_end_by, of_command, all_below, none_behind, due_from, due, IsNext, values_read, all_read, all_staged, some, first_wanted, second_wanted}
-use Rattle.df_core.specs.Steps.{Step, step_of, steps_of}
-use Rattle.df_core.proofs.DueModes.{not_nil, On, on_asks, asks_on, on_keys, on_alone, of_all, whole_on, quick_on}
+use Rattle.df_core.specs.Steps.{Step, steps_of}
+use Rattle.df_core.proofs.DueModes.{not_nil, On, on_asks, on_keys, on_alone, of_all, whole_on}
 
 pub none_some : {A : Type 0} (a : A) → None ≡ Some a → ⊥
 none_some a e = false≢true (ap is_some e)
@@ -109,7 +108,7 @@ from_stands shards i [] steps s hop act h = absurd (none_some act h)
 from_stands shards i (command ∷ commands) steps s hop act h =
     let own : ℕ → List Step = λ t. of_command i (steps t) in
     elim (either_some (hop / 4 == i) (may_end_by shards command (course_of shards command) own)
-        (due_by shards command (course_of shards command) own s (hop % 4)) (due_from shards (suc i) commands steps s hop) act h) [
+    (due_by shards command (course_of shards command) own s (hop % 4)) (due_from shards (suc i) commands steps s hop) act h) [
       | inl e ↦ (command, inl refl, by_stands shards s command (course_of shards command) refl own (hop % 4) act e.1)
       | inr e ↦ (let v = from_stands shards (suc i) commands steps s hop act e.1 in (v.0, inr v.1, v.2))
     ]

@@ -1,7 +1,7 @@
 -- On which shards a command stands, and that its call asks for something just there.
-use Rattle.std.proofs.Common.{◌≡◌, ◌≢◌, ◌⊎◌, inl, inr, ℕ, ◌<◌, ◌≤◌, Bool, true, false, cond, not, ◌||◌, is_some, nat_lt, map, List, [], ◌∷◌, ◌++◌, refl, sym, ap, ◌∙◌, subst, arith}
-use Rattle.std.specs.Prelude.{Option, Some, None, ◌==◌}
-use Rattle.std.proofs.lemmas.Bool.{false≢true, true≢false, or_cases, or_left, or_right, and_parts, ltb-true, lt-ltb, le-ltb, eqb-true, cond_both}
+use Rattle.std.proofs.Common.{◌≡◌, ◌≢◌, ◌⊎◌, inl, inr, ℕ, ◌<◌, Bool, true, false, cond, not, is_some, map, List, [], ◌∷◌, ◌++◌, refl, sym, ap, ◌∙◌, subst, arith}
+use Rattle.std.specs.Prelude.{Some, None, ◌==◌}
+use Rattle.std.proofs.lemmas.Bool.{false≢true, true≢false, or_cases, or_left, or_right, and_parts, eqb-true, cond_both}
 use Rattle.std.specs.FinMap as fin
 use Rattle.df_model.specs.Values.{Bytes}
 use Rattle.df_model.specs.Access.{among}
@@ -12,32 +12,17 @@ use Rattle.df_model.specs.declared.command.WholeOp.{WholeOp}
 use Rattle.df_model.specs.declared.command.WholeOp.TheVariants as wholes
 use Rattle.df_model.specs.declared.command.Command.{Command}
 use Rattle.df_model.specs.declared.command.Command.TheVariants.{Plain, One, Many, Whole, Wrong}
-use Rattle.df_model.specs.declared.command.Call.{Call}
 use Rattle.df_model.specs.declared.keys.Mode.{Mode}
-use Rattle.df_model.specs.declared.keys.Keys.{Keys}
 use Rattle.df_model.specs.declared.keys.Keys.TheVariants as kinds
-use Rattle.df_footprints.specs.Footprints.{Modes, keys_of, keys_of_all, whole_mode, modes_on, some_whole, some_keys, commands_of, footprint_of_commands, footprint_of, mode_of_all}
+use Rattle.df_footprints.specs.Footprints.{Modes, keys_of, keys_of_all, whole_mode, modes_on, some_whole, some_keys, footprint_of_commands, mode_of_all}
 use Rattle.df_footprints.proofs.ModesLaws.{mode_there, named_there}
 use Rattle.df_order.specs.Lists.{Has}
+use Rattle.df_order.proofs.Lists.{has_left, has_right, has_cases}
 use Rattle.df_core.specs.Courses.{Course, Nowhere, Alone, Spread, Counts, Cuts, Clears, course_of, course_of_keys, course_of_whole, all_on, keys_on, has_hop, is_quick}
 use Rattle.df_core.specs.Courses as courses
 use Rattle.df_core.specs.Due.{is_nil}
 
 -- ---- members of lists
-
-has_front : {X : Type 0} (xs ys : List X) (x : X) → Has xs x → Has (xs ++ ys) x
-has_front [] ys x h = absurd h
-has_front (y ∷ xs) ys x (inl e) = inl e
-has_front (y ∷ xs) ys x (inr h) = inr (has_front xs ys x h)
-
-has_back : {X : Type 0} (xs ys : List X) (x : X) → Has ys x → Has (xs ++ ys) x
-has_back [] ys x h = h
-has_back (y ∷ xs) ys x h = inr (has_back xs ys x h)
-
-has_either : {X : Type 0} (xs ys : List X) (x : X) → Has (xs ++ ys) x → Has xs x ⊎ Has ys x
-has_either [] ys x h = inr h
-has_either (y ∷ xs) ys x (inl e) = inl (inl e)
-has_either (y ∷ xs) ys x (inr h) = elim (has_either xs ys x h) [ inl a ↦ inl (inr a) | inr b ↦ inr b ]
 
 -- ---- where a command stands
 
@@ -59,12 +44,12 @@ there_whole (c ∷ commands) e = elim (or_cases (is_some (whole_mode c)) (some_w
 
 keys_there : (commands : List Command) (command : Command) (m : Bytes × Mode) → Has commands command → Has (keys_of command) m → Has (keys_of_all commands) m
 keys_there [] command m h k = absurd h
-keys_there (c ∷ commands) command m (inl i) k = has_front (keys_of c) (keys_of_all commands) m (subst (λ d. Has (keys_of d) m) (sym i) k)
-keys_there (c ∷ commands) command m (inr h) k = has_back (keys_of c) (keys_of_all commands) m (keys_there commands command m h k)
+keys_there (c ∷ commands) command m (inl i) k = has_left (keys_of c) (keys_of_all commands) m (subst (λ d. Has (keys_of d) m) (sym i) k)
+keys_there (c ∷ commands) command m (inr h) k = has_right (keys_of c) (keys_of_all commands) m (keys_there commands command m h k)
 
 there_keys : (commands : List Command) (m : Bytes × Mode) → Has (keys_of_all commands) m → (command : Command) × Has commands command × Has (keys_of command) m
 there_keys [] m h = absurd h
-there_keys (c ∷ commands) m h = elim (has_either (keys_of c) (keys_of_all commands) m h) [
+there_keys (c ∷ commands) m h = elim (has_cases (keys_of c) (keys_of_all commands) m h) [
   | inl k ↦ (c, inl refl, k)
   | inr k ↦ let v = there_keys commands m k in (v.0, inr v.1, v.2)
 ]
@@ -96,11 +81,11 @@ on_asks shards s commands command h (inr (m, k, e)) =
     cond_both (some_whole commands) (Some (kinds.All (mode_of_all commands))) (some_keys (fin.entries (modes_on shards s commands))) (λ o. o ≢ None)
     (λ _. λ i. true≢false (ap is_some i))
     (λ _. some_keys_some (fin.entries (modes_on shards s commands))
-        (entries_there (modes_on shards s commands) m.0 (mode_there shards s commands m.0 m.1 (keys_there commands command m h k) e)))
+    (entries_there (modes_on shards s commands) m.0 (mode_there shards s commands m.0 m.1 (keys_there commands command m h k) e)))
 
 -- and nowhere else
-pub asks_on : (shards s : ℕ) (commands : List Command) → footprint_of_commands shards s commands ≢ None → (command : Command) × Has commands command × On shards s command
-asks_on shards s commands = go (some_whole commands) refl
+pub on_where_asked : (shards s : ℕ) (commands : List Command) → footprint_of_commands shards s commands ≢ None → (command : Command) × Has commands command × On shards s command
+on_where_asked shards s commands = go (some_whole commands) refl
   where
     go : (b : Bool) → some_whole commands ≡ b → cond b (Some (kinds.All (mode_of_all commands))) (some_keys (fin.entries (modes_on shards s commands))) ≢ None
         → (command : Command) × Has commands command × On shards s command
@@ -140,7 +125,7 @@ all_there shards s (x ∷ ms) m e (inl i) = ap (λ y. shard_of y.0 shards) (sym 
 all_there shards s (x ∷ ms) m e (inr h) = all_there shards s ms m (and_parts (shard_of x.0 shards == s) (all_on shards s ms) e).1 h
 
 -- the shard of a course that has just one
-abbrev pub alone_at : Course → ℕ
+abbrev alone_at : Course → ℕ
 alone_at Nowhere = 0
 alone_at (Alone s) = s
 alone_at Spread = 0
@@ -149,7 +134,7 @@ alone_at Counts = 0
 alone_at Cuts = 0
 alone_at Clears = 0
 
-abbrev pub is_alone : Course → Bool
+abbrev is_alone : Course → Bool
 is_alone Nowhere = false
 is_alone (Alone s) = true
 is_alone Spread = false
@@ -225,9 +210,9 @@ keys_hop shards (x ∷ ms) m h = cond_both (all_on shards (shard_of x.0 shards) 
 pub on_hop : (shards s : ℕ) (command : Command) → On shards s command → has_hop (course_of shards command) ≡ true
 on_hop shards s command on = elim (by_kind shards command) [
   | inl k ↦ elim on [
-      | inl whole ↦ absurd (false≢true (sym (ap is_some k.1) ∙ whole))
-      | inr there ↦ ap has_hop k.0 ∙ keys_hop shards (keys_of command) there.0 there.1
-    ]
+    | inl whole ↦ absurd (false≢true (sym (ap is_some k.1) ∙ whole))
+    | inr there ↦ ap has_hop k.0 ∙ keys_hop shards (keys_of command) there.0 there.1
+  ]
   | inr w ↦ ap (λ c. has_hop (course_of shards c)) w.1 ∙ whole_hop shards w.0
 ]
 
@@ -243,14 +228,14 @@ quick_alone shards (x ∷ ms) e = go (all_on shards (shard_of x.0 shards) ms) e
 pub quick_on : (shards s t : ℕ) (command : Command) → is_quick shards (course_of shards command) ≡ true → s < shards → t < shards → On shards s command → On shards t command → t ≡ s
 quick_on shards s t command q ls lt on others = elim (by_kind shards command) [
   | inl k ↦ elim on [
+    | inl whole ↦ absurd (false≢true (sym (ap is_some k.1) ∙ whole))
+    | inr here ↦ elim others [
       | inl whole ↦ absurd (false≢true (sym (ap is_some k.1) ∙ whole))
-      | inr here ↦ elim others [
-          | inl whole ↦ absurd (false≢true (sym (ap is_some k.1) ∙ whole))
-          | inr there ↦ (
-              let a = quick_alone shards (keys_of command) (sym (ap (is_quick shards) k.0) ∙ q) in
-              sym there.2 ∙ keys_alone shards a.0 (keys_of command) there.0 a.1 there.1 ∙ sym (keys_alone shards a.0 (keys_of command) here.0 a.1 here.1) ∙ here.2)
-        ]
+      | inr there ↦ (
+          let a = quick_alone shards (keys_of command) (sym (ap (is_quick shards) k.0) ∙ q) in
+          sym there.2 ∙ keys_alone shards a.0 (keys_of command) there.0 a.1 there.1 ∙ sym (keys_alone shards a.0 (keys_of command) here.0 a.1 here.1) ∙ here.2)
     ]
+  ]
   | inr w ↦ (let one = whole_quick shards w.0 (sym (ap (λ c. is_quick shards (course_of shards c)) w.1) ∙ q) in omega (arith, one, ls, lt))
 ]
 

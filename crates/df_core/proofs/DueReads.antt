@@ -1,29 +1,25 @@
 -- What was read is what the keys hold, so that a command that has done all its hops may end there.
-use Rattle.std.proofs.Common.{◌≡◌, ◌≢◌, ◌⊎◌, inl, inr, ℕ, zero, suc, ◌<◌, ◌≤◌, Bool, true, false, cond, not, ◌&&◌, ◌||◌, nat_lt, length, map, List, [], ◌∷◌, refl, sym, ap, ◌∙◌, subst, arith}
-use Rattle.std.specs.Prelude.{Option, Some, None, ◌==◌, eqb}
-use Rattle.std.proofs.lemmas.Bool.{false≢true, true≢false, and_from, and_parts, or_left, or_right, cases_lt, cond_both, eq-eqb, ne_eqb}
+use Rattle.std.proofs.Common.{◌≡◌, ◌⊎◌, inl, inr, ℕ, zero, suc, ◌<◌, ◌≤◌, Bool, true, false, cond, not, ◌&&◌, ◌||◌, nat_lt, length, map, List, [], ◌∷◌, refl, sym, ap, ◌∙◌, arith}
+use Rattle.std.specs.Prelude.{Some, ◌==◌}
+use Rattle.std.proofs.lemmas.Bool.{and_from, and_parts, or_left, or_right, eq-eqb, ne_eqb, eqb-true}
 use Rattle.std.proofs.lemmas.Bool.Decides.{eqb_tells}
-use Rattle.df_model.specs.Values.{Bytes, Value}
+use Rattle.df_model.specs.Values.{Bytes}
 use Rattle.df_model.specs.Words.{same}
 use Rattle.df_model.specs.Keyspace.{Keyspace, held, with_held}
-use Rattle.df_model.specs.Access.{Access, names, among, taken_over, does}
+use Rattle.df_model.specs.Access.{Access, names, among, taken_over}
 use Rattle.df_model.specs.Meaning.{meaning}
 use Rattle.df_model.specs.Hash.{shard_of}
 use Rattle.df_model.proofs.LocalityLaws.{held_taken_over, same_left, same_itself}
 use Rattle.df_model.specs.declared.command.Command.{Command}
 use Rattle.df_model.specs.declared.command.Command.TheVariants.{Plain, One, Many, Whole, Wrong}
-use Rattle.df_model.specs.declared.command.WholeOp.{WholeOp}
-use Rattle.df_model.specs.declared.command.WholeOp.TheVariants as wholes
 use Rattle.df_model.specs.declared.reply.Reply.{Reply}
 use Rattle.df_footprints.specs.Footprints.{access_of}
 use Rattle.df_footprints.proofs.ModesLaws.{keys_of_one, means}
-use Rattle.df_log.specs.Acts.{Changes, Act, Run, Told}
 use Rattle.df_core.specs.Altered.{altered, same_held}
-use Rattle.df_core.specs.Courses.{Course, Nowhere, Alone, Spread, Counts, Cuts, Clears, course_of, keys_on, changes_on}
-use Rattle.df_core.specs.Courses as courses
+use Rattle.df_core.specs.Courses.{Spread, Clears, course_of, keys_on, changes_on}
 use Rattle.df_core.specs.Due.{every, is_nil, values_of, with_values, read_on, values_read, all_read, may_end_by}
 use Rattle.df_core.specs.Steps.{Step}
-use Rattle.df_core.specs.Done.{first_step, Shows, Stops, Undoes, OnEach, Done}
+use Rattle.df_core.specs.Done.{Shows, Stops, Undoes, OnEach, Done}
 use Rattle.df_core.proofs.DueModes.{whole_spread, nowhere_spread}
 
 -- ---- what a command changes depends on the keys that it names
@@ -69,38 +65,58 @@ with_values_taken (key ∷ keys) K L = ap (λ M. with_held M key (held K key)) (
 abbrev pub HasRead : ℕ → Command → Keyspace → ℕ → List Step → Type 0
 HasRead shards command K t steps = (keys_on shards t command ≡ []) ⊎ (values_of steps ≡ map (held K) (keys_on shards t command))
 
-module _ (shards : ℕ) (command : Command) (a : Access) (e : access_of command ≡ Some a) (steps : ℕ → List Step) (K : Keyspace)
-    (has_read : (t : ℕ) → HasRead shards command K t (steps t)) (key : Bytes) (is_named : among (names a) key ≡ true) where
-  read_step_held : (t : ℕ) → held (read_on shards command steps (suc t)) key ≡ cond (shard_of key shards == t) (held K key) (held (read_on shards command steps t) key)
-  read_step_held t =
-      taken t ∙ ap (λ b. cond b (held K key) (held (read_on shards command steps t) key))
+-- where each shard told what its own keys hold, the command's keys hold that in all that was read
+module _ (shards : ℕ) (command : Command) (a : Access) (e : access_of command ≡ Some a) (steps : ℕ → List Step) (K : ℕ → Keyspace)
+    (has_read : (t : ℕ) → t < shards → HasRead shards command (K t) t (steps t)) (key : Bytes) (is_named : among (names a) key ≡ true) where
+  read_step_held : (t : ℕ) → t < shards → held (read_on shards command steps (suc t)) key ≡ cond (shard_of key shards == t) (held (K t) key) (held (read_on shards command steps t) key)
+  read_step_held t lt =
+      taken t lt ∙ ap (λ b. cond b (held (K t) key) (held (read_on shards command steps t) key))
       (keys_of_one shards t command a key e ∙ ap (λ b. b && (shard_of key shards == t)) is_named)
     where
-      taken : (u : ℕ) → held (read_on shards command steps (suc u)) key ≡ cond (among (keys_on shards u command) key) (held K key) (held (read_on shards command steps u) key)
-      taken u = elim (has_read u) [
+      taken : (u : ℕ) → u < shards → held (read_on shards command steps (suc u)) key ≡ cond (among (keys_on shards u command) key) (held (K u) key) (held (read_on shards command steps u) key)
+      taken u l = elim (has_read u l) [
         | inl none ↦ ap (λ ks. held (with_values ks (values_of (steps u)) (read_on shards command steps u)) key) none
-            ∙ sym (ap (λ ks. cond (among ks key) (held K key) (held (read_on shards command steps u) key)) none)
+            ∙ sym (ap (λ ks. cond (among ks key) (held (K u) key) (held (read_on shards command steps u) key)) none)
         | inr some ↦ ap (λ vs. held (with_values (keys_on shards u command) vs (read_on shards command steps u)) key) some
-            ∙ ap (λ M. held M key) (with_values_taken (keys_on shards u command) K (read_on shards command steps u))
-            ∙ held_taken_over (read_on shards command steps u) (keys_on shards u command) K key
+            ∙ ap (λ M. held M key) (with_values_taken (keys_on shards u command) (K u) (read_on shards command steps u))
+            ∙ held_taken_over (read_on shards command steps u) (keys_on shards u command) (K u) key
       ]
 
-  read_held : (n : ℕ) → shard_of key shards < n → held (read_on shards command steps n) key ≡ held K key
-  read_held zero lt = absurd (omega arith)
-  read_held (suc t) lt = elim (eqb_tells (shard_of key shards) t) [
-    | inl i ↦ read_step_held t ∙ ap (λ b. cond b (held K key) (held (read_on shards command steps t) key)) (eq-eqb (shard_of key shards) t i.1)
-    | inr n ↦ read_step_held t ∙ ap (λ b. cond b (held K key) (held (read_on shards command steps t) key)) (ne_eqb (shard_of key shards) t n.1) ∙ read_held t (omega (arith, n.1))
+  read_held : (n : ℕ) → n ≤ shards → shard_of key shards < n → held (read_on shards command steps n) key ≡ held (K (shard_of key shards)) key
+  read_held zero le lt = absurd (omega arith)
+  read_held (suc t) le lt = elim (eqb_tells (shard_of key shards) t) [
+    | inl i ↦ read_step_held t (omega arith) ∙ ap (λ b. cond b (held (K t) key) (held (read_on shards command steps t) key)) (eq-eqb (shard_of key shards) t i.1)
+        ∙ ap (λ u. held (K u) key) (sym i.1)
+    | inr n ↦ read_step_held t (omega arith) ∙ ap (λ b. cond b (held (K t) key) (held (read_on shards command steps t) key)) (ne_eqb (shard_of key shards) t n.1)
+        ∙ read_held t (omega arith) (omega (arith, n.1))
   ]
 
-  pub values_held : 0 < shards → held (values_read shards command steps) key ≡ held K key
-  values_held pos = read_held shards (omega (arith, pos))
+  pub values_held : 0 < shards → held (values_read shards command steps) key ≡ held (K (shard_of key shards)) key
+  values_held pos = read_held shards (omega arith) (omega (arith, pos))
 
 -- what changes by what was read is what changes by what the keys hold
 pub changes_read : (shards : ℕ) (command : Command) (steps : ℕ → List Step) (K : Keyspace) → 0 < shards → course_of shards command ≡ Spread
-    → ((t : ℕ) → HasRead shards command K t (steps t)) → (s : ℕ) → changes_on shards s command (values_read shards command steps) ≡ changes_on shards s command K
+    → ((t : ℕ) → t < shards → HasRead shards command K t (steps t)) → (s : ℕ) → changes_on shards s command (values_read shards command steps) ≡ changes_on shards s command K
 changes_read shards command steps K pos e has_read s =
     let a = spread_access shards command e in
-    changes_alike shards s command a.0 (values_read shards command steps) K a.1 (λ key h. values_held shards command a.0 a.1 steps K has_read key h pos)
+    changes_alike shards s command a.0 (values_read shards command steps) K a.1 (λ key h. values_held shards command a.0 a.1 steps (λ t. K) has_read key h pos)
+
+map_same : {X : Type 0} (f g : Bytes → X) (ks : List Bytes) → ((k : Bytes) → among ks k ≡ true → f k ≡ g k) → map f ks ≡ map g ks
+map_same f g [] h = refl
+map_same f g (k ∷ ks) h =
+    let here = h k (or_left (same k k) (among ks k) (same_itself k)) in
+    let more = map_same f g ks (λ x m. h x (or_right (same k x) (among ks x) m)) in
+    λ j. here j ∷ more j
+
+-- what a shard told of its keys is what they hold in all that was read
+pub values_back : (shards : ℕ) (command : Command) (steps : ℕ → List Step) (K : ℕ → Keyspace) → 0 < shards → course_of shards command ≡ Spread
+    → ((t : ℕ) → t < shards → HasRead shards command (K t) t (steps t)) → (s : ℕ)
+    → map (held (values_read shards command steps)) (keys_on shards s command) ≡ map (held (K s)) (keys_on shards s command)
+values_back shards command steps K pos e has_read s =
+    let a = spread_access shards command e in
+    map_same (held (values_read shards command steps)) (held (K s)) (keys_on shards s command) (λ k h.
+    let n = and_parts (among (names a.0) k) (shard_of k shards == s) (sym (keys_of_one shards s command a.0 k a.1) ∙ h) in
+    values_held shards command a.0 a.1 steps K has_read k n.0 pos ∙ ap (λ u. held (K u) k) (eqb-true (shard_of k shards) s n.1))
 
 -- ---- a command whose hops all ran may end there
 
@@ -119,7 +135,7 @@ module _ (shards i s : ℕ) (command : Command) where
   nil_looked : (steps : List Step) → keys_on shards s command ≡ [] → Looked shards command s steps
   nil_looked steps e = or_left (is_nil (keys_on shards s command)) (not (is_nil steps)) (ap is_nil e)
 
-  shows_read : (K : Keyspace) (steps : List Step) → Shows shards i s command K steps → HasRead shards command K s steps
+  pub shows_read : (K : Keyspace) (steps : List Step) → Shows shards i s command K steps → HasRead shards command K s steps
   shows_read K _ (Shows.unnamed e) = inl e
   shows_read K _ (Shows.looked e f) = inr refl
   shows_read K _ (Shows.applied e) = inr refl
@@ -137,7 +153,7 @@ module _ (shards i s : ℕ) (command : Command) where
   shows_settled K _ (Shows.looked e f) = or_left (is_nil (changes_on shards s command K)) false (ap is_nil f)
   shows_settled K _ (Shows.applied e) = or_right (is_nil (changes_on shards s command K)) true refl
 
-  undoes_read : (K : Keyspace) (steps : List Step) → Undoes shards i s command K steps → HasRead shards command K s steps
+  pub undoes_read : (K : Keyspace) (steps : List Step) → Undoes shards i s command K steps → HasRead shards command K s steps
   undoes_read K _ (Undoes.unnamed e) = inl e
   undoes_read K _ (Undoes.looked e f) = inr refl
   undoes_read K _ (Undoes.undone e told) = inr refl
@@ -168,8 +184,8 @@ module _ (shards i : ℕ) (pos : 0 < shards) (command : Command) (own : ℕ → 
       ∙ and_from (all_read shards command own) _
       (every_all (λ t. is_nil (keys_on shards t command) || not (is_nil (own t))) shards (λ t lt. looked t))
       (or_right (every (λ t. nat_lt (length (own t)) 2) shards) _
-          (every_all (λ t. is_nil (changes_on shards t command (values_read shards command own)) || (length (own t) == 3)) shards
-              (λ t lt. ap (λ c. is_nil c || (length (own t) == 3)) (changes_read shards command own K pos e has_read t) ∙ settled t)))
+      (every_all (λ t. is_nil (changes_on shards t command (values_read shards command own)) || (length (own t) == 3)) shards
+      (λ t lt. ap (λ c. is_nil c || (length (own t) == 3)) (changes_read shards command own K pos e (λ u l. has_read u) t) ∙ settled t)))
 
   stopped_ends : course_of shards command ≡ Spread → ((t : ℕ) → Looked shards command t (own t)) → ((t : ℕ) → nat_lt (length (own t)) 2 ≡ true)
       → may_end_by shards command (course_of shards command) own ≡ true

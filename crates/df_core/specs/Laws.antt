@@ -1,9 +1,10 @@
 -- The laws of calls on shards.
-use Rattle.std.specs.Prelude.{◌≡◌, ℕ, pred, ◌<◌, ◌≤◌, Bool, List, map}
+use Rattle.std.specs.Prelude.{◌≡◌, ℕ, pred, ◌<◌, ◌≤◌, Bool, Some, List, map}
 use Rattle.df_model.specs.Keyspace.{Keyspace}
 use Rattle.df_model.specs.History.{Leads, IsLegal}
 use Rattle.df_model.specs.declared.command.WholeOp.TheVariants as wholes
 use Rattle.df_model.specs.declared.command.Command.TheVariants.{Whole}
+use Rattle.df_model.specs.declared.command.Call.{Call}
 use Rattle.df_model.specs.declared.command.Call.TheVariants.{Single}
 use Rattle.df_model.specs.declared.reply.Reply.{Reply}
 use Rattle.df_order.specs.Lists.{Has}
@@ -13,9 +14,12 @@ use Rattle.df_world.specs.World.{World, first, logs}
 use Rattle.df_world.specs.Events.{Event, Happens, after, Runs}
 use Rattle.df_world.specs.TheList.{Finds, the_list}
 use Rattle.df_world.specs.Invariant.{Invariant}
-use Rattle.df_log.specs.Acts.{Cut}
+use Rattle.df_log.specs.Acts.{Changes, Act, Stage, Cut}
 use Rattle.df_log.specs.Parts.{Part, own_keys}
 use Rattle.df_log.specs.declared.entry.Entry.{Entry}
+use Rattle.df_core.specs.Steps.{Step}
+use Rattle.df_core.specs.Due.{due}
+use Rattle.df_core.specs.Done.{Gives}
 use Rattle.df_core.specs.Joined.{joined}
 use Rattle.df_core.specs.Calls.{calls}
 use Rattle.df_core.specs.History.{Draw, idle, part_of, with_draw, history_of, InOrder}
@@ -73,3 +77,9 @@ EventsKeepTheInvariant =
     (shards : ℕ) → 0 < shards → (K : Keyspace) (events : List (Event (calls shards))) (w : World (calls shards)) (e : Event (calls shards)) →
     Runs (calls shards) (first (calls shards) idle (part_of shards K)) events w → Happens (calls shards) w e →
     (s : ℕ) → Invariant (calls shards) (after (calls shards) w e) (part_of shards K) s
+
+-- a call whose hops all ran has no hop that is due, but for the stages of a command that ended behind its reads
+abbrev pub CompleteCallsRest : Type 0
+CompleteCallsRest =
+    (shards : ℕ) (call : Call) (steps : ℕ → List Step) (reply : Reply) (s hop : ℕ) (act : Act) → 0 < shards →
+    Gives shards call steps reply → due shards call steps s hop ≡ Some act → (changes : Changes) × (act ≡ Stage changes)

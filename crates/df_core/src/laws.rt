@@ -1,6 +1,6 @@
 //! The laws of calls on shards, each the contract of a function that does nothing.
 
-ghost use Rattle.df_core.specs.Laws.{CallsKeepTheLaws, EventsKeepTheInvariant, LogsAreOneHistory, RunsAreInOrder, RunsAreOneHistory, SavesStandInTheHistory};
+ghost use Rattle.df_core.specs.Laws.{CallsKeepTheLaws, CompleteCallsRest, EventsKeepTheInvariant, LogsAreOneHistory, RunsAreInOrder, RunsAreOneHistory, SavesStandInTheHistory};
 
 /// The serial order law: whatever happens in whatever order, the finished calls are those of one thread that takes
 /// them in the order of their numbers, and each number is above all that its caller had seen.
@@ -23,4 +23,10 @@ pub fn listed()
 /// Every call keeps what the order law asks for.
 pub fn calls_keep_the_laws()
     ensures { CallsKeepTheLaws }
+{}
+
+/// A call is complete where nothing is due any more, but that a command which ended behind its reads, for want of
+/// memory, might have gone on.
+pub fn complete_calls_rest()
+    ensures { CompleteCallsRest }
 {}
