@@ -1,5 +1,5 @@
 -- The holders of intents on a shard, and who conflicts with them.
-use Rattle.std.specs.Prelude.{ℕ, ◌==◌, Bool, true, false, ◌&&◌, not, cond, length, is_some, Option, Some, None, List, [], ◌∷◌}
+use Rattle.std.specs.Prelude.{ℕ, ◌==◌, Bool, true, ◌&&◌, not, max, cond, length, is_some, Option, Some, None, List, [], ◌∷◌}
 use Rattle.df_model.specs.declared.keys.Keys.{Keys}
 use Rattle.df_model.specs.declared.keys.Keys.TheVariants as kinds
 use Rattle.df_footprints.specs.Asks.{conflicts}
@@ -36,3 +36,7 @@ without number (h ∷ hs) = cond (h.number == number) (without number hs) (h ∷
 abbrev pub count_of : Keys → ℕ
 count_of (kinds.Some modes) = length modes.items
 count_of (kinds.All mode) = 1
+
+-- for how many asks there has to be room before a call takes them: also one that asks for nothing is a holder
+abbrev pub room_of : Keys → ℕ
+room_of keys = max 1 (count_of keys)

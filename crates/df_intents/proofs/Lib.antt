@@ -1,0 +1,5 @@
+pub mod AskLaws
+pub mod EntryLaws
+pub mod HolderLaws
+pub mod IndexLaws
+pub mod KeptLaws
