@@ -1,2 +1,3 @@
 pub mod ModesLaws
 pub mod ConflictLaws
+pub mod GatherLaws

@@ -1,3 +1,4 @@
 pub mod Asks
 pub mod Footprints
 pub mod Laws
+pub mod Naming
