@@ -1,6 +1,10 @@
 pub mod OrderLaws
 pub mod SearchLaws
 pub mod PlaceLaws
+pub mod CutLaws
+pub mod HomeLaws
+pub mod RoomLaws
+pub mod PartLaws
 pub mod MergeLaws
 pub mod SetLaws
 pub mod CountLaws

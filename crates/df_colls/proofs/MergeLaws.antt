@@ -9,9 +9,9 @@ use Rattle.std.specs.FinMap as finmap
 use Rattle.df_model.specs.Values.{Bytes, Members}
 use Rattle.df_model.specs.Members.{insert, with_all, union}
 use Rattle.df_colls.specs.Roomy.{order}
-use Rattle.df_colls.specs.Places.{Makes}
+use Rattle.df_colls.specs.Places.{AllAbove, Makes}
 use Rattle.df_colls.specs.Merged.{with_put}
-use Rattle.df_colls.proofs.OrderLaws.{second, same_key, flip, AllAbove, above_first, above_lower}
+use Rattle.df_colls.proofs.OrderLaws.{second, same_key, flip, above_first, above_lower}
 use Rattle.df_colls.proofs.PlaceLaws.{makes}
 
 abbrev Entry : Type 0

@@ -9,6 +9,7 @@ use Rattle.std.specs.FinMap.{is_sorted, slice_cmp-IsAntisymmetric, nat_cmp-IsAnt
 use Rattle.std.specs.FinMap.Entries.{below_all}
 use Rattle.df_model.specs.Values.{Bytes}
 use Rattle.df_colls.specs.Roomy.{order}
+use Rattle.df_colls.specs.Places.{AllAbove, AllBelow}
 
 pub first : (a b : Bool) → T (a && b) → T a
 first true b p = tt
@@ -40,11 +41,6 @@ pub lower : (a b k : Bytes) (r : Ordering) → order a b ≡ Less → order b k 
 lower a b k Less p e = rw (nat_list_cmp_total.trans a b k p e) (omega arith)
 lower a b k Equal p e = rw (ap (λ x. order a x) (sym (same_key b k e)) ∙ p) (omega arith)
 lower a b k Greater p e = greatest (order a k)
-
--- each key is above k
-abbrev pub AllAbove : {X : Type 0} → Bytes → List (Bytes × X) → Type 0
-AllAbove k [] = Unit {0}
-AllAbove k (e ∷ es) = (order k e.0 ≡ Less) × AllAbove k es
 
 module _ {X : Type 0} where
   pub above : (k : Bytes) (es : List (Bytes × X)) → T (below_all order k es) → AllAbove k es

@@ -1,8 +1,7 @@
 -- What a place tells of the map: a change there is the map's own change.
-use Rattle.std.proofs.Common.{◌≡◌, ℕ, zero, suc, ◌<◌, ◌≤◌, Bool, true, false, cond, List, [], ◌∷◌, length, get_or, set, Result, Ok, Err, refl, sym, ap, subst, ◌∙◌, arith}
-use Rattle.std.specs.Prelude.{Option, Some, None, T, not, MatchResult}
+use Rattle.std.proofs.Common.{◌≡◌, ℕ, zero, suc, ◌<◌, ◌≤◌, Bool, true, false, cond, List, [], ◌∷◌, length, get_or, set, refl, sym, ap, subst, ◌∙◌, arith}
+use Rattle.std.specs.Prelude.{Option, Some, None, T, not}
 use Rattle.std.specs.List.{insert, remove}
-use Rattle.std.specs.List.Sorted.{IsSearchInRange, IsBinarySearchResult}
 use Rattle.std.specs.Ordering.{eq_by_cmp}
 use Rattle.std.specs.Cmp.{eq_by_cmp_equiv}
 use Rattle.std.specs.Cmp.Lexicographic.{nat_list_cmp_total}
@@ -11,9 +10,8 @@ use Rattle.std.specs.FinMap as map
 use Rattle.std.specs.FinMap.Entries.{where_key, is_sorted-where_key, find-where_key}
 use Rattle.df_model.specs.Values.{Bytes}
 use Rattle.df_colls.specs.Roomy.{order}
-use Rattle.df_colls.specs.Places.{made, Makes, Present, Absent}
-use Rattle.df_colls.proofs.OrderLaws.{second, same_key, AllAbove, above_first}
-use Rattle.df_colls.proofs.SearchLaws.{IsAt, GoesTo, searched}
+use Rattle.df_colls.specs.Places.{AllAbove, IsAt, GoesTo, made, Makes, Present, Absent}
+use Rattle.df_colls.proofs.OrderLaws.{second, same_key, above_first}
 
 turned : {X : Type 0} (b : Bool) (x y : Option X) → cond (not b) x y ≡ cond b y x
 turned true x y = refl
@@ -72,7 +70,7 @@ module _ {X : Type 0} where
 
   -- ---- where the key is
 
-  at_within : (k : Bytes) (es : List (Bytes × X)) (i : ℕ) → IsAt k es i → i < length es
+  pub at_within : (k : Bytes) (es : List (Bytes × X)) (i : ℕ) → IsAt k es i → i < length es
   at_within k [] i h = absurd h
   at_within k (e ∷ es) zero h = omega arith
   at_within k (e ∷ es) (suc i) h = omega (arith, at_within k es i h.1)
@@ -96,7 +94,7 @@ module _ {X : Type 0} where
   remove_at k (e ∷ es) zero s h = rw h (unless_above k es (subst (λ x. AllAbove x es) (sym (same_key k e.0 h)) (above_first e es s)))
   remove_at k (e ∷ es) (suc i) s h = rw h.0 (ap (λ xs. e ∷ xs) (remove_at k es i (second _ _ s) h.1))
 
-  present : (k : Bytes) (es : List (Bytes × X)) (i : ℕ) → T (is_sorted order es) → IsAt k es i → Present k es i
+  pub present : (k : Bytes) (es : List (Bytes × X)) (i : ℕ) → T (is_sorted order es) → IsAt k es i → Present k es i
   present k es i s h = record {
     within = at_within k es i h;
     value = λ e is. map.get-from_sorted order es k s ∙ find_at k es i e h ∙ ap (λ x. Some x.1) (sym is);
@@ -106,7 +104,7 @@ module _ {X : Type 0} where
 
   -- ---- where the key would go
 
-  goes_within : (k : Bytes) (es : List (Bytes × X)) (i : ℕ) → GoesTo k es i → i ≤ length es
+  pub goes_within : (k : Bytes) (es : List (Bytes × X)) (i : ℕ) → GoesTo k es i → i ≤ length es
   goes_within k es zero h = omega arith
   goes_within k [] (suc i) h = absurd h
   goes_within k (e ∷ es) (suc i) h = omega (arith, goes_within k es i h.1)
@@ -134,17 +132,10 @@ module _ {X : Type 0} where
   unless_none k [] (suc i) h = refl
   unless_none k (e ∷ es) (suc i) h = rw h.0 (ap (λ xs. e ∷ xs) (unless_none k es i h.1))
 
-  absent : (k : Bytes) (es : List (Bytes × X)) (i : ℕ) → T (is_sorted order es) → GoesTo k es i → Absent k es i
+  pub absent : (k : Bytes) (es : List (Bytes × X)) (i : ℕ) → T (is_sorted order es) → GoesTo k es i → Absent k es i
   absent k es i s h = record {
     within = goes_within k es i h;
     value = map.get-from_sorted order es k s ∙ find_none k es i h;
     added = λ v. put_makes k v es _ s (put_new k v es i h);
     removed = sym (unless_is k es es s (unless_none k es i h)).same;
   }
-
-  pub placed : (k : Bytes) (es : List (Bytes × X)) (r : Result ℕ ℕ) → T (is_sorted order es) → (xs : List (Bytes × X)) → xs ≡ es → IsSearchInRange r (length xs) → IsBinarySearchResult (λ y. order y.0 k) xs r → MatchResult r (Present k es) (Absent k es)
-  placed k es r s xs e range h = told r (subst (λ ys. IsSearchInRange r (length ys)) e range) (subst (λ ys. IsBinarySearchResult (λ y. order y.0 k) ys r) e h)
-    where
-      told : (r : Result ℕ ℕ) → IsSearchInRange r (length es) → IsBinarySearchResult (λ y. order y.0 k) es r → MatchResult r (Present k es) (Absent k es)
-      told (Ok i) range h = present k es i s (searched k es (Ok i) s range h)
-      told (Err i) range h = absent k es i s (searched k es (Err i) s range h)

@@ -8,21 +8,10 @@ use Rattle.std.specs.declared.cmp.Ordering.TheVariants.{Less, Equal, Greater}
 use Rattle.std.specs.FinMap.{is_sorted}
 use Rattle.df_model.specs.Values.{Bytes}
 use Rattle.df_colls.specs.Roomy.{order}
-use Rattle.df_colls.proofs.OrderLaws.{second, same_key, flip, lower, AllAbove, above_first, above_at}
+use Rattle.df_colls.specs.Places.{AllAbove, IsAt, GoesTo}
+use Rattle.df_colls.proofs.OrderLaws.{second, same_key, flip, lower, above_first, above_at}
 
 module _ {X : Type 0} where
-  -- the entry at i has the key k, and those before it have lesser keys
-  abbrev pub IsAt : Bytes → List (Bytes × X) → ℕ → Type 0
-  IsAt k [] i = ⊥
-  IsAt k (e ∷ es) zero = order k e.0 ≡ Equal
-  IsAt k (e ∷ es) (suc i) = (order k e.0 ≡ Greater) × IsAt k es i
-
-  -- the keys before i are less than k, and those from i on are greater
-  abbrev pub GoesTo : Bytes → List (Bytes × X) → ℕ → Type 0
-  GoesTo k es zero = AllAbove k es
-  GoesTo k [] (suc i) = ⊥
-  GoesTo k (e ∷ es) (suc i) = (order k e.0 ≡ Greater) × GoesTo k es i
-
   rises : (k : Bytes) (es : List (Bytes × X)) → T (is_sorted order es) → IsNonDecreasingBy (λ y. ordering_index (order y.0 k)) es
   rises k [] s i j d le lt = absurd (omega arith)
   rises k (e ∷ es) s zero zero d le lt = omega arith
@@ -46,6 +35,9 @@ module _ {X : Type 0} where
   is_at k (e ∷ es) (suc i) s lt h =
       (flip e.0 k Less (subst (λ x. order e.0 x ≡ Less) (same_key _ k (h e)) (above_at e.0 es i e (above_first e es s) (omega arith))), is_at k es i (second _ _ s) (omega arith) (λ d. h d))
 
-  pub searched : (k : Bytes) (es : List (Bytes × X)) (r : Result ℕ ℕ) → T (is_sorted order es) → IsSearchInRange r (length es) → IsBinarySearchResult (λ y. order y.0 k) es r → MatchResult r (IsAt k es) (GoesTo k es)
-  searched k es (Ok i) s range h = is_at k es i s range h
-  searched k es (Err i) s range h = goes_to k es i range (h (rises k es s))
+  pub searched : (k : Bytes) (es : List (Bytes × X)) (r : Result ℕ ℕ) → T (is_sorted order es) → (xs : List (Bytes × X)) → xs ≡ es → IsSearchInRange r (length xs) → IsBinarySearchResult (λ y. order y.0 k) xs r → MatchResult r (IsAt k es) (GoesTo k es)
+  searched k es r s xs e range h = told r (subst (λ ys. IsSearchInRange r (length ys)) e range) (subst (λ ys. IsBinarySearchResult (λ y. order y.0 k) ys r) e h)
+    where
+      told : (r : Result ℕ ℕ) → IsSearchInRange r (length es) → IsBinarySearchResult (λ y. order y.0 k) es r → MatchResult r (IsAt k es) (GoesTo k es)
+      told (Ok i) range h = is_at k es i s range h
+      told (Err i) range h = goes_to k es i range (h (rises k es s))

@@ -133,8 +133,10 @@ impl SetVal {
         ensures { IfOk result
             (λ either. either.members ≡ members.union self.now.members other.now.members) }
     {
-        let items = merged(alloc, self.entries.as_slice(), other.entries.as_slice())?;
-        let entries = Entries::from_items(items);
+        let left = self.entries.copied(alloc)?;
+        let right = other.entries.copied(alloc)?;
+        let items = merged(alloc, left.as_slice(), right.as_slice())?;
+        let entries = Entries::from_items(alloc, items)?;
         Ok(SetVal { entries })
     }
 
@@ -151,8 +153,12 @@ impl SetVal {
         ensures { IfOk result
             (λ kept. kept.members ≡ map.retain_keys self.now.members (is_kept inside other.now.members)) }
     {
-        let items = kept(alloc, self.entries.as_slice(), &other.entries, inside)?;
-        let entries = Entries::from_items(items);
+        let mut items = Vec::new(alloc);
+        'chunks: for chunk in self.entries.parts() {
+            let mut more = kept(alloc, chunk.as_slice(), &other.entries, inside)?;
+            items.append(&mut more)?;
+        }
+        let entries = Entries::from_items(alloc, items)?;
         Ok(SetVal { entries })
     }
 }

@@ -31,3 +31,15 @@ fn sets_are_combined(rt: HostRuntime) -> Result<(), NoMemory> {
     assert_eq!(rt; theirs.diff(rt.alloc(), &ours)?.len(), 1);
     Ok(())
 }
+
+#[test]
+fn many_members_stand_in_order(rt: HostRuntime) -> Result<(), NoMemory> {
+    let mut set = SetVal::new(rt.alloc());
+    for i in 0..1000u32 {
+        set.reserve(1)?;
+        let name = (i * 777 % 1000).to_be_bytes();
+        let _new = set.add(Bin::from_slice(rt.alloc(), name.as_slice())?);
+    }
+    assert_eq!(rt; set.len(), 1000);
+    Ok(())
+}
