@@ -39,7 +39,11 @@ fn grants_as_the_worked_scenario(rt: HostRuntime) -> Result<(), NoMemory> {
     let (shared, exclusive) = (Mode::Shared, Mode::Exclusive);
     let table = [
         // the calls that are over, the call that takes, in which mode it takes all keys, or which it takes, its grant
-        ([0, 0], 5, None, [("a", exclusive), NO_KEY], Grant::Free),
+        ([0, 0], 4, None, [("a", exclusive), NO_KEY], Grant::Free),
+        ([0, 0], 5, None, [("a", exclusive), NO_KEY], Grant::Waits),
+        ([0, 0], 6, None, [("b", exclusive), NO_KEY], Grant::Free),
+        ([4, 6], 2, None, [("a", shared), NO_KEY], Grant::Waits),
+        ([5, 2], 5, None, [("a", exclusive), NO_KEY], Grant::Free),
         (
             [0, 0],
             3,
