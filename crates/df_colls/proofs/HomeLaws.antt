@@ -1,5 +1,5 @@
 -- Keys in chunks: in which chunk a key may be, and what its place there tells of the whole list.
-use Rattle.std.proofs.Common.{◌≡◌, ℕ, zero, suc, ◌+◌, ◌<◌, ◌≤◌, Bool, true, false, ◌&&◌, List, [], ◌∷◌, ◌++◌, length, take, drop, inl, inr, ◌⊎◌, refl, sym, ap, subst, ◌∙◌, zero-add, add-one, arith}
+use Rattle.std.proofs.Common.{◌≡◌, ℕ, zero, suc, ◌+◌, ◌<◌, Bool, true, false, ◌&&◌, List, [], ◌∷◌, ◌++◌, length, take, drop, inl, inr, ◌⊎◌, refl, sym, ap, subst, ◌∙◌, zero-add, add-one, arith}
 use Rattle.std.specs.Prelude.{T}
 use Rattle.std.specs.Cmp.Lexicographic.{nat_list_cmp_total}
 use Rattle.std.specs.declared.cmp.Ordering.TheVariants.{Less, Equal, Greater}
@@ -8,8 +8,8 @@ use Rattle.std.specs.FinMap.Entries.{below_all}
 use Rattle.df_model.specs.Values.{Bytes}
 use Rattle.df_colls.specs.declared.chunks.Place.{Place}
 use Rattle.df_colls.specs.Roomy.{order}
-use Rattle.df_colls.specs.Cuts.{flat, chunk_at, index_of, IsPlace, IsGap}
-use Rattle.df_colls.specs.Places.{AllAbove, AllBelow, IsAt, GoesTo, Present, Absent, IsFound, IsMissing, IsHome, Starts}
+use Rattle.df_colls.specs.Cuts.{flat, chunk_at, index_of}
+use Rattle.df_colls.specs.Places.{AllAbove, AllBelow, IsAt, GoesTo, Absent, IsFound, IsMissing, IsHome, Starts}
 use Rattle.df_colls.proofs.OrderLaws.{first, second, same_key, flip, above_first, above_lower}
 use Rattle.df_colls.proofs.PlaceLaws.{present, absent, at_within, goes_within}
 use Rattle.df_colls.proofs.CutLaws.{parted}

@@ -9,7 +9,7 @@ use Rattle.std.specs.FinMap.{is_sorted, slice_cmp-IsAntisymmetric, nat_cmp-IsAnt
 use Rattle.std.specs.FinMap.Entries.{below_all}
 use Rattle.df_model.specs.Values.{Bytes}
 use Rattle.df_colls.specs.Roomy.{order}
-use Rattle.df_colls.specs.Places.{AllAbove, AllBelow}
+use Rattle.df_colls.specs.Places.{AllAbove}
 
 pub first : (a b : Bool) → T (a && b) → T a
 first true b p = tt

@@ -1,13 +1,13 @@
 -- Chunks in memory: the list that they make, and what keeps them sound.
-use Rattle.std.proofs.Common.{◌≡◌, ℕ, zero, suc, ◌+◌, ◌-◌, ◌*◌, ◌<◌, ◌≤◌, List, [], ◌∷◌, ◌++◌, length, get_or, set, take, drop, map, inl, inr, ◌⊎◌, refl, sym, ap, subst, ◌∙◌, add-one, arith, vec_len, vec_capacity}
+use Rattle.std.proofs.Common.{◌≡◌, ℕ, zero, suc, ◌+◌, ◌-◌, ◌*◌, ◌<◌, ◌≤◌, List, [], ◌∷◌, ◌++◌, length, get_or, set, take, drop, inl, inr, refl, sym, ap, subst, ◌∙◌, add-one, arith, vec_len, vec_capacity}
 use Rattle.std.specs.declared.vec.Vec.{Vec}
 use Rattle.std.specs.List.{All, insert, remove, sum_by}
 use Rattle.std.proofs.lemmas.List.{length-set, length-map, map-set, map-append, take-map, drop_more, drop-drop, drop_at, drop-set-lt, take-set, length-append, length_push}
-use Rattle.std.proofs.lemmas.List.Elements.{All-set, All-append, All-map, All-same, All-push, All-head, All-tail}
+use Rattle.std.proofs.lemmas.List.Elements.{All-set, All-map, All-same, All-push, All-head, All-tail}
 use Rattle.std.proofs.lemmas.List.Edits.{length-insert, length-remove}
 use Rattle.std.proofs.lemmas.List.Sums.{sum_by-le}
 use Rattle.std.proofs.lemmas.List.Concat.{length-flat_map}
-use Rattle.df_colls.specs.declared.chunks.TheConstants.{FULL, HALF, MOST}
+use Rattle.df_colls.specs.declared.chunks.TheConstants.{FULL, MOST}
 use Rattle.df_colls.specs.declared.chunks.Place.{Place}
 use Rattle.df_colls.specs.Cuts.{Cut, flat, chunk_at, index_of, IsPlace, IsGap, IsFilled}
 use Rattle.df_colls.specs.Parts.{item_lists, spare_of, IsFree, IsSound, AreHalves, HasMore}

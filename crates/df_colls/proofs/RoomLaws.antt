@@ -1,15 +1,12 @@
 -- Room for puts: what an edit of one chunk leaves of it.
-use Rattle.std.proofs.Common.{◌≡◌, ℕ, zero, suc, ◌+◌, ◌-◌, ◌*◌, ◌/◌, ◌<◌, ◌≤◌, List, [], ◌∷◌, ◌++◌, length, get_or, set, take, drop, min, max, refl, sym, ap, subst, ◌∙◌, add-one, arith, vec_len, vec_capacity}
+use Rattle.std.proofs.Common.{◌≡◌, ℕ, zero, suc, ◌+◌, ◌-◌, ◌/◌, ◌<◌, ◌≤◌, List, [], ◌∷◌, length, get_or, set, take, drop, min, refl, sym, ap, subst, ◌∙◌, arith, vec_len, vec_capacity}
 use Rattle.std.specs.declared.vec.Vec.{Vec}
-use Rattle.std.specs.List.{All, insert, remove, sum_by}
+use Rattle.std.specs.List.{All, insert, remove}
 use Rattle.std.proofs.lemmas.List.{length-set, get_or-set_same, set-set, set-get_or}
-use Rattle.std.proofs.lemmas.List.Elements.{All-set, All-append, All-take, All-drop, All-cons, All-nil, All-tail, All-head}
-use Rattle.std.proofs.lemmas.List.Edits.{length-insert, length-remove}
-use Rattle.std.proofs.lemmas.List.Sums.{sum_by-set, sum_by-insert, sum_by-remove, sum_by-le, get_or-le-sum_by}
-use Rattle.std.proofs.lemmas.List.Concat.{length-flat_map}
-use Rattle.df_colls.specs.declared.chunks.TheConstants.{FULL, HALF, MOST}
-use Rattle.df_colls.specs.Cuts.{flat, chunk_at}
-use Rattle.df_colls.specs.Parts.{item_lists, excess, alone, spare_of, IsFree, IsSound}
+use Rattle.std.proofs.lemmas.List.Elements.{All-set, All-append, All-take, All-drop, All-cons}
+use Rattle.std.proofs.lemmas.List.Sums.{sum_by-set, sum_by-insert, sum_by-remove, sum_by-le}
+use Rattle.df_colls.specs.declared.chunks.TheConstants.{FULL, HALF}
+use Rattle.df_colls.specs.Parts.{alone, spare_of}
 
 -- ---- facts about each element
 

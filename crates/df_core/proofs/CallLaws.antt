@@ -6,20 +6,24 @@ use Rattle.df_model.specs.declared.command.Call.{Call}
 use Rattle.df_model.specs.declared.command.Call.TheVariants.{Single, Exec}
 use Rattle.df_model.specs.declared.reply.Reply.{Reply}
 use Rattle.df_order.specs.Lists.{Has}
+use Rattle.df_order.specs.Model.{replay, FitAll}
 use Rattle.df_log.specs.Parts.{Part}
 use Rattle.df_log.specs.declared.entry.Entry.{Entry}
 use Rattle.df_core.specs.Steps.{Step, steps_of, after_steps, AllTold}
 use Rattle.df_core.specs.Joined.{joined}
+use Rattle.df_core.specs.Calls.{calls}
 use Rattle.df_core.specs.Done.{DoneAll, Gives, marks_of}
-use Rattle.df_core.proofs.StepLaws.{after_both, told_front, told_back, after_all, ToldAll, after_entries, told_entries}
-use Rattle.df_core.proofs.SpreadLaws.{done_does, joined_stays}
+use Rattle.df_core.proofs.StepLaws.{after_both, told_front, told_back, after_entries, told_entries}
+use Rattle.df_core.proofs.SpreadLaws.{done_does}
+use Rattle.df_core.proofs.JoinedLaws.{joined_stays}
 use Rattle.df_core.proofs.MarkLaws.{marks_told}
 
 -- the hops of a list of commands do what the commands mean, one after the other
-pub all_compose : (shards i n : ℕ) (commands : List Command) (steps : ℕ → List Step) (marks : List Bool) (replies : List Reply) (parts : ℕ → Part) → 0 < shards
-    → DoneAll shards i commands steps marks replies → ((s : ℕ) → AllTold shards s n (steps s) (parts s))
-    → DoesAll commands marks (joined shards parts) replies (joined shards (λ s. after_steps n (steps s) (parts s)))
-all_compose shards i n [] steps [] [] parts pos d told = joined_stays shards parts (λ s. after_steps n (steps s) (parts s)) pos (λ s. ap (λ own. (after_steps n own (parts s)).visible) (d s))
+pub all_compose : (shards i n : ℕ) (commands : List Command) (steps : ℕ → List Step) (marks : List Bool) (replies : List Reply) (parts : ℕ → Part) →
+    0 < shards → DoneAll shards i commands steps marks replies → ((s : ℕ) → AllTold shards s n (steps s) (parts s)) →
+    DoesAll commands marks (joined shards parts) replies (joined shards (λ s. after_steps n (steps s) (parts s)))
+all_compose shards i n [] steps [] [] parts pos d told =
+    joined_stays shards parts (λ s. after_steps n (steps s) (parts s)) (λ s. ap (λ own. (after_steps n own (parts s)).visible) (d s))
 all_compose shards i n [] steps [] (reply ∷ replies) parts pos d told = absurd d
 all_compose shards i n [] steps (kept ∷ marks) replies parts pos d told = absurd d
 all_compose shards i n (command ∷ commands) steps [] replies parts pos d told = absurd d
@@ -42,9 +46,9 @@ all_compose shards i n (command ∷ commands) steps (kept ∷ marks) (reply ∷ 
     ends s = sym (ap (λ own. after_steps n own (parts s)) (d.2 s) ∙ after_both shards s n (d.0 s) (d.1 s) (parts s))
 
 -- the hops of a call, each told what it gives, are an outcome that one thread may have, with the marks that the logs tell
-pub composes : (shards n : ℕ) (call : Call) (steps : ℕ → List Step) (reply : Reply) (parts : ℕ → Part) → 0 < shards
-    → Gives shards call steps reply → ((s : ℕ) → AllTold shards s n (steps s) (parts s))
-    → Allowed call (marks_of shards call steps) (joined shards parts) reply (joined shards (λ s. after_steps n (steps s) (parts s)))
+pub composes : (shards n : ℕ) (call : Call) (steps : ℕ → List Step) (reply : Reply) (parts : ℕ → Part) → 0 < shards →
+    Gives shards call steps reply → ((s : ℕ) → AllTold shards s n (steps s) (parts s)) →
+    Allowed call (marks_of shards call steps) (joined shards parts) reply (joined shards (λ s. after_steps n (steps s) (parts s)))
 composes shards n (Single command) steps reply parts pos gives told =
     subst (λ marks. DoesAll (command ∷ []) marks (joined shards parts) (reply ∷ []) (joined shards (λ s. after_steps n (steps s) (parts s))))
     (sym (marks_told shards 0 (command ∷ []) steps (gives.0 ∷ []) (reply ∷ []) pos gives.1))
@@ -58,10 +62,13 @@ composes shards n (Exec commands) steps reply parts pos gives told = (
 )
 
 -- the same of the entries of one number
-pub entries_compose : (shards n : ℕ) (call : Call) (es : ℕ → List Entry) (reply : Reply) (parts : ℕ → Part) → 0 < shards
-    → ((s : ℕ) (e : Entry) → Has (es s) e → e.number ≡ n) → Gives shards call (λ s. steps_of (es s)) reply → ((s : ℕ) → ToldAll shards s (es s) (parts s))
-    → Allowed call (marks_of shards call (λ s. steps_of (es s))) (joined shards parts) reply (joined shards (λ s. after_all (es s) (parts s)))
-entries_compose shards n call es reply parts pos numbers gives told =
-    subst (Allowed call (marks_of shards call (λ s. steps_of (es s))) (joined shards parts) reply)
+pub entries_compose : (shards n : ℕ) (call : ℕ → Call) (es : ℕ → List Entry) (reply : Reply) (parts : ℕ → Part) →
+    0 < shards → ((s : ℕ) (e : Entry) → Has (es s) e → e.number ≡ n) →
+    Gives shards (call n) (λ s. steps_of (es s)) reply → ((s : ℕ) → FitAll (calls shards) call s (parts s) (es s)) →
+    Allowed (call n) (marks_of shards (call n) (λ s. steps_of (es s)))
+    (joined shards parts) reply (joined shards (λ s. replay (calls shards) (parts s) (es s)))
+entries_compose shards n call es reply parts pos numbers gives fit =
+    subst (Allowed (call n) (marks_of shards (call n) (λ s. steps_of (es s))) (joined shards parts) reply)
     (λ k. joined shards (λ s. sym (after_entries shards s n (es s) (parts s) (numbers s)) k))
-    (composes shards n call (λ s. steps_of (es s)) reply parts pos gives (λ s. told_entries shards s n (es s) (parts s) (numbers s) (told s)))
+    (composes shards n (call n) (λ s. steps_of (es s)) reply parts pos gives
+    (λ s. told_entries shards s n call (es s) (parts s) (numbers s) (fit s)))

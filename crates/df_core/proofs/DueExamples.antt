@@ -1,6 +1,6 @@
 -- The hops of some calls, worked out: with four shards a stands on 0 and b on 1.
-use Rattle.std.proofs.Common.{◌≡◌, inl, inr, ℕ, zero, suc, ◌<◌, Bool, true, false, cond, length, map, List, [], ◌∷◌, refl, sym, ap, ◌∙◌, arith, codes}
-use Rattle.std.specs.Prelude.{Option, Some, None}
+use Rattle.std.proofs.Common.{◌≡◌, inl, inr, ℕ, zero, suc, ◌<◌, cond, length, map, List, [], ◌∷◌, refl, sym, ap, ◌∙◌, arith, codes}
+use Rattle.std.specs.Prelude.{Some, None}
 use Rattle.std.specs.Ordering.{nat_cmp}
 use Rattle.std.specs.Cmp.Lexicographic.{slice_cmp, nat_list_cmp_total}
 use Rattle.std.specs.FinMap.{entries-insert, get-empty, get-insert, len-empty, len-entries}
@@ -20,13 +20,14 @@ use Rattle.df_model.specs.declared.command.Call.{Call}
 use Rattle.df_model.specs.declared.command.Call.TheVariants.{Single, Exec}
 use Rattle.df_model.specs.declared.reply.Reply.TheVariants.{Array, NullBulk}
 use Rattle.df_model.specs.declared.keys.Mode.{Mode}
-use Rattle.df_log.specs.Acts.{Changes, Act, Run, Read, Stage, Apply, Unstage, Told, Ran, Values, Staged, NoMemory}
+use Rattle.df_log.specs.Acts.{Changes, Run, Read, Stage, Apply, Unstage, Told, Ran, Values, Staged, NoMemory}
 use Rattle.df_core.specs.Altered.{altered, same_held}
 use Rattle.df_core.specs.Courses.{keys_on, changes_on}
 use Rattle.df_core.specs.Due.{due, values_of, values_read, of_command}
 use Rattle.df_core.specs.Steps.{Step}
 use Rattle.df_core.specs.Done.{Gives}
-use Rattle.df_core.proofs.DueReads.{HasRead, changes_read}
+use Rattle.df_core.proofs.StepLaws.{either_way}
+use Rattle.df_core.proofs.ReadLaws.{HasRead, changes_read}
 
 -- ---- GET of one key, on one shard of one
 
@@ -48,11 +49,7 @@ abbrev nothing : Call
 nothing = Exec (all_of [])
 
 nothing_is_due : (s hop : ℕ) → due 4 nothing (λ t. []) s hop ≡ None
-nothing_is_due s hop = either_way None _
-  where
-    either_way : (o : Option Act) (b : Bool) → cond b o o ≡ o
-    either_way o true = refl
-    either_way o false = refl
+nothing_is_due s hop = either_way _ None
 
 nothing_is_done : Gives 4 nothing (λ t. []) (Array (all_of []))
 nothing_is_done = ([], [], refl, λ s. refl)
@@ -127,7 +124,8 @@ abbrev puts : Bytes → Bytes → Changes
 puts key text = (key, Some (Value.Str text)) ∷ []
 
 -- of a key that held nothing, and then a text
-one_changed : (key text : Bytes) (K L : Keyspace) → held K key ≡ None → held L key ≡ Some (Value.Str text) → altered K L (key ∷ []) ≡ puts key text
+one_changed : (key text : Bytes) (K L : Keyspace) → held K key ≡ None → held L key ≡ Some (Value.Str text) →
+    altered K L (key ∷ []) ≡ puts key text
 one_changed key text K L e f = λ j. cond (same_held (e j) (f j)) [] ((key, f j) ∷ [])
 
 -- on the first two shards it was read, and on the others no key stands
@@ -142,12 +140,14 @@ module _ (own : ℕ → List Step) (on_0 on_1 : List Step) (at_0 : own 0 ≡ rea
   changes_0 : changes_on 4 0 mset_ab (values_read 4 mset_ab own) ≡ puts (codes "a") (codes "1")
   changes_0 =
       changes_read 4 mset_ab own no_keys (omega arith) refl has_read 0
-      ∙ ap (altered no_keys (meaning mset_ab no_keys).1) keys_0 ∙ one_changed (codes "a") (codes "1") no_keys (meaning mset_ab no_keys).1 (missing (codes "a")) left_at_a
+      ∙ ap (altered no_keys (meaning mset_ab no_keys).1) keys_0
+      ∙ one_changed (codes "a") (codes "1") no_keys (meaning mset_ab no_keys).1 (missing (codes "a")) left_at_a
 
   changes_1 : changes_on 4 1 mset_ab (values_read 4 mset_ab own) ≡ puts (codes "b") (codes "2")
   changes_1 =
       changes_read 4 mset_ab own no_keys (omega arith) refl has_read 1
-      ∙ ap (altered no_keys (meaning mset_ab no_keys).1) keys_1 ∙ one_changed (codes "b") (codes "2") no_keys (meaning mset_ab no_keys).1 (missing (codes "b")) left_at_b
+      ∙ ap (altered no_keys (meaning mset_ab no_keys).1) keys_1
+      ∙ one_changed (codes "b") (codes "2") no_keys (meaning mset_ab no_keys).1 (missing (codes "b")) left_at_b
 
   changes_2 : changes_on 4 2 mset_ab (values_read 4 mset_ab own) ≡ []
   changes_2 = ap (altered (values_read 4 mset_ab own) (meaning mset_ab (values_read 4 mset_ab own)).1) keys_2

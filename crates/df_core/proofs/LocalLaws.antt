@@ -1,26 +1,22 @@
 -- What an act of a call looks at and changes on a shard is what the call asks for there; and acts that keep off each
 -- other's keys change places.
-use Rattle.std.proofs.Common.{◌≡◌, ◌≢◌, inl, inr, ℕ, ◌<◌, Bool, true, false, cond, eqb, List, [], ◌∷◌, map, refl, sym, ap, subst, ◌∙◌, append-nil}
-use Rattle.std.specs.Prelude.{Some, ◌==◌, if◌then◌else◌}
-use Rattle.std.proofs.lemmas.Bool.{false≢true, and_parts, eqb-true, eq-eqb, ne_eqb}
-use Rattle.std.proofs.lemmas.Bool.Decides.{eqb_tells}
+use Rattle.std.proofs.Common.{◌≡◌, ◌≢◌, inl, inr, ℕ, ◌<◌, Bool, true, false, cond, List, [], ◌∷◌, refl, sym, ap, subst, ◌∙◌, append-nil}
+use Rattle.std.specs.Prelude.{Some}
+use Rattle.std.proofs.lemmas.Bool.{false≢true}
 use Rattle.df_model.specs.Values.{Bytes}
 use Rattle.df_model.specs.Hash.{shard_of}
 use Rattle.df_model.specs.Keyspace.{Keyspace, held}
-use Rattle.df_model.specs.Access.{Access, names, among, does, on_key}
-use Rattle.df_model.specs.Meaning.{meaning, one, many}
-use Rattle.df_model.specs.declared.command.WholeOp.{WholeOp}
-use Rattle.df_model.specs.declared.command.WholeOp.TheVariants as wholes
+use Rattle.df_model.specs.Access.{Access, names, among, does}
+use Rattle.df_model.specs.Meaning.{meaning, one}
 use Rattle.df_model.specs.declared.command.Command.{Command}
-use Rattle.df_model.specs.declared.command.Command.TheVariants.{Plain, One, Many, Whole, Wrong}
 use Rattle.df_model.specs.declared.command.Call.{Call}
 use Rattle.df_model.specs.declared.keys.Mode.{Mode}
 use Rattle.df_model.specs.declared.keys.Mode.TheVariants.{Exclusive}
 use Rattle.df_model.proofs.LocalityLaws.{same_reply, same_left, others, within}
-use Rattle.df_model.proofs.WholeLaws.{first_among, later_among}
+use Rattle.df_model.proofs.WholeLaws.{same_map_by}
 use Rattle.df_order.specs.Lists.{Has}
 use Rattle.df_order.specs.Puts.{put}
-use Rattle.df_order.proofs.Puts.{put_same, put_other, put_swap}
+use Rattle.df_order.proofs.Puts.{put_other, put_swap}
 use Rattle.df_footprints.specs.Asks.{Ask, touches, writes}
 use Rattle.df_footprints.specs.Footprints.{access_of, named, keys_of, keys_of_all, all_of_op, whole_mode, commands_of}
 use Rattle.df_footprints.proofs.ModesLaws.{named_in_mode, exclusive_in, named_there, means}
@@ -28,10 +24,10 @@ use Rattle.df_footprints.proofs.ConflictLaws.{writes-touches}
 use Rattle.df_log.specs.Acts.{Changes, Act, Run, Read, Stage, Apply, Unstage, Begin, Walk, Count, Clear, Told, Ran, Values}
 use Rattle.df_log.specs.Changes.{change_of}
 use Rattle.df_log.specs.Parts.{Part, did, shown, shown_after, staged_after, after_act, IsTold, ran, read, staged, applied, unstaged, wanted}
-use Rattle.df_core.specs.Courses.{Course, Nowhere, Alone, Spread, Counts, Cuts, Clears, all_on, course_of_keys, course_of, keys_on, changes_on}
-use Rattle.df_core.specs.Courses as courses
+use Rattle.df_core.specs.Courses.{course_of, keys_on, changes_on}
 use Rattle.df_core.specs.Belongs.{MayDo, runs, reads, stages, applies, unstages, walks, counts, begins, stages_none, clears, unstages_none, Belongs, asks_on, Inside}
-use Rattle.df_core.proofs.JoinedLaws.{same_keyspace}
+use Rattle.df_core.proofs.CourseLaws.{unwritten, OnOne, OfAll, alone_either, is_whole, whole_of, flushes, flush_writes}
+use Rattle.df_core.proofs.KeysLaws.{map_alike}
 use Rattle.df_core.proofs.AlteredLaws.{changed_to, held_changed}
 use Rattle.df_core.proofs.AsksLaws.{touches_named, writes_named, touches_all, writes_all}
 
@@ -44,8 +40,8 @@ Agree allowed K L = (key : Bytes) → touches allowed key ≡ true → held K ke
 -- An act on a shard changes no key but those that it is allowed to write; and what it leaves and what it is told at the
 -- keys that it is allowed to look at hangs on these keys alone.
 pub record Local (shards s : ℕ) (allowed : List Ask) (act : Act) : Type 0 where
-  pub leaves : (told : Told) (changes : Changes) (K : Keyspace) → Inside allowed changes → (key : Bytes) → writes allowed key ≡ false →
-      held (shown_after act told changes K) key ≡ held K key
+  pub leaves : (told : Told) (changes : Changes) (K : Keyspace) → Inside allowed changes → (key : Bytes) →
+      writes allowed key ≡ false → held (shown_after act told changes K) key ≡ held K key
   pub sees : (told : Told) (changes : Changes) (K L : Keyspace) → Agree allowed K L →
       Agree allowed (shown_after act told changes K) (shown_after act told changes L)
   pub tells : (K L : Keyspace) (told : Told) → Agree allowed K L → IsTold shards s K act told → IsTold shards s L act told
@@ -62,6 +58,7 @@ unless : (a b : Bool) → (a ≡ true → b ≡ false) → b ≡ true → a ≡ 
 unless true b f h = absurd (false≢true (sym (f refl) ∙ h))
 unless false b f h = refl
 
+-- of two tests that follow
 pub unless_true : (a b : Bool) → (a ≡ true → b ≡ true) → b ≡ false → a ≡ false
 unless_true true b f h = absurd (false≢true (sym h ∙ f refl))
 unless_true false b f h = refl
@@ -73,8 +70,10 @@ module _ (shards s : ℕ) (mine yours : List Ask) (a b : Act) (i j : Told) (n m 
     pub second : FitsLocal shards s mine n a i (after_act m b j x)
     pub same : after_act m b j (after_act n a i x) ≡ after_act n a i (after_act m b j x)
 
-  pub trade : ((key : Bytes) → writes mine key ≡ true → touches yours key ≡ false) → ((key : Bytes) → writes yours key ≡ true → touches mine key ≡ false) →
-      n ≢ m → FitsLocal shards s mine n a i x → FitsLocal shards s yours m b j (after_act n a i x) → Traded
+  -- the acts of two numbers change places where each keeps off the keys that the other may write
+  pub trade : ((key : Bytes) → writes mine key ≡ true → touches yours key ≡ false) →
+      ((key : Bytes) → writes yours key ≡ true → touches mine key ≡ false) → n ≢ m → FitsLocal shards s mine n a i x →
+      FitsLocal shards s yours m b j (after_act n a i x) → Traded
   trade mine_off yours_off ne p q = record {
     first = record { local = q.local; inside = inside_m; told_so = q.local.tells a_map x.visible j a_agrees q.told_so };
     second = record {
@@ -82,7 +81,11 @@ module _ (shards s : ℕ) (mine yours : List Ask) (a b : Act) (i j : Told) (n m 
       inside = λ key h. ap (λ c. change_of c key) other_n ∙ p.inside key h;
       told_so = p.local.tells x.visible b_map i (λ key h. sym (b_agrees key h)) p.told_so;
     };
-    same = λ d. record { visible = same_keyspace (after_act m b j (after_act n a i x)).visible (after_act n a i (after_act m b j x)).visible visible d; staged = λ k. stages k d };
+    same = λ d. record {
+      visible = same_map_by (after_act m b j (after_act n a i x)).visible
+          (after_act n a i (after_act m b j x)).visible visible d;
+      staged = λ k. stages k d;
+    };
   }
     where
       other_m : (after_act n a i x).staged m ≡ x.staged m
@@ -106,10 +109,12 @@ module _ (shards s : ℕ) (mine yours : List Ask) (a b : Act) (i j : Told) (n m 
       b_agrees : Agree mine b_map x.visible
       b_agrees key h = q.local.leaves j (x.staged m) x.visible inside_m key (unless (writes yours key) (touches mine key) (yours_off key) h)
 
-      visible_at : (key : Bytes) (c d : Bool) → writes yours key ≡ c → writes mine key ≡ d → held (shown_after b j (x.staged m) a_map) key ≡ held (shown_after a i (x.staged n) b_map) key
+      visible_at : (key : Bytes) (c d : Bool) → writes yours key ≡ c → writes mine key ≡ d →
+          held (shown_after b j (x.staged m) a_map) key ≡ held (shown_after a i (x.staged n) b_map) key
       visible_at key true d v w =
           q.local.sees j (x.staged m) a_map x.visible a_agrees key (writes-touches yours key v)
-          ∙ sym (p.local.leaves i (x.staged n) b_map p.inside key (unless_true (writes mine key) (touches mine key) (writes-touches mine key) (yours_off key v)))
+          ∙ sym (p.local.leaves i (x.staged n) b_map p.inside key
+          (unless_true (writes mine key) (touches mine key) (writes-touches mine key) (yours_off key v)))
       visible_at key false true v w =
           q.local.leaves j (x.staged m) a_map inside_m key v
           ∙ sym (p.local.sees i (x.staged n) b_map x.visible b_agrees key (writes-touches mine key w))
@@ -119,9 +124,12 @@ module _ (shards s : ℕ) (mine yours : List Ask) (a b : Act) (i j : Told) (n m 
           ∙ sym (q.local.leaves j (x.staged m) x.visible inside_m key v)
           ∙ sym (p.local.leaves i (x.staged n) b_map p.inside key w)
 
-      visible : (key : Bytes) → held (after_act m b j (after_act n a i x)).visible key ≡ held (after_act n a i (after_act m b j x)).visible key
+      visible : (key : Bytes) →
+          held (after_act m b j (after_act n a i x)).visible key ≡ held (after_act n a i (after_act m b j x)).visible key
       visible key =
-          ap (λ c. held (shown_after b j c a_map) key) other_m ∙ visible_at key (writes yours key) (writes mine key) refl refl ∙ sym (ap (λ c. held (shown_after a i c b_map) key) other_n)
+          ap (λ c. held (shown_after b j c a_map) key) other_m
+          ∙ visible_at key (writes yours key) (writes mine key) refl refl
+          ∙ sym (ap (λ c. held (shown_after a i c b_map) key) other_n)
 
       stages : (k : ℕ) → (after_act m b j (after_act n a i x)).staged k ≡ (after_act n a i (after_act m b j x)).staged k
       stages k =
@@ -133,16 +141,19 @@ module _ (shards s : ℕ) (mine yours : List Ask) (a b : Act) (i j : Told) (n m 
 
 -- what is shown hangs on the answer only so far as want of memory shows nothing
 module _ (act : Act) (allowed : List Ask) where
-  leaves_told : ((changes : Changes) (K : Keyspace) → Inside allowed changes → (key : Bytes) → writes allowed key ≡ false → held (shown act changes K) key ≡ held K key)
-      → (told : Told) (changes : Changes) (K : Keyspace) → Inside allowed changes → (key : Bytes) → writes allowed key ≡ false → held (shown_after act told changes K) key ≡ held K key
+  leaves_told : ((changes : Changes) (K : Keyspace) → Inside allowed changes → (key : Bytes)
+      → writes allowed key ≡ false → held (shown act changes K) key ≡ held K key) →
+      (told : Told) (changes : Changes) (K : Keyspace) → Inside allowed changes → (key : Bytes) →
+      writes allowed key ≡ false → held (shown_after act told changes K) key ≡ held K key
   leaves_told leaves told changes K inside key w = go (did told)
     where
       go : (b : Bool) → held (cond b (shown act changes K) K) key ≡ held K key
       go true = leaves changes K inside key w
       go false = refl
 
-  sees_told : ((changes : Changes) (K L : Keyspace) → Agree allowed K L → Agree allowed (shown act changes K) (shown act changes L))
-      → (told : Told) (changes : Changes) (K L : Keyspace) → Agree allowed K L → Agree allowed (shown_after act told changes K) (shown_after act told changes L)
+  sees_told : ((changes : Changes) (K L : Keyspace) → Agree allowed K L → Agree allowed (shown act changes K) (shown act changes L)) →
+      (told : Told) (changes : Changes) (K L : Keyspace) → Agree allowed K L →
+      Agree allowed (shown_after act told changes K) (shown_after act told changes L)
   sees_told sees told changes K L agree key t = go (did told)
     where
       go : (b : Bool) → held (cond b (shown act changes K) K) key ≡ held (cond b (shown act changes L) L) key
@@ -151,18 +162,21 @@ module _ (act : Act) (allowed : List Ask) where
 
 module _ (shards s : ℕ) (allowed : List Ask) where
   -- an act that shows nothing
-  quiet : (act : Act) → ((changes : Changes) (K : Keyspace) → shown act changes K ≡ K)
-      → ((K L : Keyspace) (told : Told) → Agree allowed K L → IsTold shards s K act told → IsTold shards s L act told) → Local shards s allowed act
+  quiet : (act : Act) → ((changes : Changes) (K : Keyspace) → shown act changes K ≡ K) →
+      ((K L : Keyspace) (told : Told) → Agree allowed K L → IsTold shards s K act told → IsTold shards s L act told) →
+      Local shards s allowed act
   quiet act stays tells = record {
     leaves = leaves_told act allowed (λ changes K inside key w. ap (λ M. held M key) (stays changes K));
-    sees = sees_told act allowed (λ changes K L agree key t. ap (λ M. held M key) (stays changes K) ∙ agree key t ∙ sym (ap (λ M. held M key) (stays changes L)));
+    sees = sees_told act allowed
+        (λ changes K L agree key t. ap (λ M. held M key) (stays changes K) ∙ agree key t ∙ sym (ap (λ M. held M key) (stays changes L)));
     tells = tells;
   }
 
   staging : (changes : Changes) → Local shards s allowed (Stage changes)
   staging changes = quiet (Stage changes) (λ c K. refl) (tells changes)
     where
-      tells : (changes : Changes) (K L : Keyspace) (told : Told) → Agree allowed K L → IsTold shards s K (Stage changes) told → IsTold shards s L (Stage changes) told
+      tells : (changes : Changes) (K L : Keyspace) (told : Told) → Agree allowed K L →
+          IsTold shards s K (Stage changes) told → IsTold shards s L (Stage changes) told
       tells changes K L told agree (staged c) = staged c
       tells changes K L told agree (wanted act e) = wanted act e
 
@@ -176,7 +190,9 @@ module _ (shards s : ℕ) (allowed : List Ask) where
   applying : Local shards s allowed Apply
   applying = record {
     leaves = leaves_told Apply allowed (λ changes K inside key w. held_changed changes K key ∙ ap (λ c. changed_to c (held K key)) (inside key w));
-    sees = sees_told Apply allowed (λ changes K L agree key t. held_changed changes K key ∙ ap (changed_to (change_of changes key)) (agree key t) ∙ sym (held_changed changes L key));
+    sees = sees_told Apply allowed
+        (λ changes K L agree key t. held_changed changes K key ∙ ap (changed_to (change_of changes key)) (agree key t)
+        ∙ sym (held_changed changes L key));
     tells = tells;
   }
     where
@@ -184,24 +200,24 @@ module _ (shards s : ℕ) (allowed : List Ask) where
       tells K L told agree applied = applied
       tells K L told agree (wanted act e) = wanted act e
 
-  same_values : (keys : List Bytes) (K L : Keyspace) → ((key : Bytes) → among keys key ≡ true → held K key ≡ held L key) → map (held K) keys ≡ map (held L) keys
-  same_values [] K L h = refl
-  same_values (key ∷ keys) K L h = λ i. h key (first_among key keys) i ∷ same_values keys K L (λ q n. h q (later_among key q keys n)) i
-
-  reading : (keys : List Bytes) → ((key : Bytes) → among keys key ≡ true → touches allowed key ≡ true) → Local shards s allowed (Read keys)
+  reading : (keys : List Bytes) → ((key : Bytes) → among keys key ≡ true → touches allowed key ≡ true) →
+      Local shards s allowed (Read keys)
   reading keys asked = quiet (Read keys) (λ c K. refl) (tells keys asked)
     where
-      tells : (keys : List Bytes) → ((key : Bytes) → among keys key ≡ true → touches allowed key ≡ true) → (K L : Keyspace) (told : Told) → Agree allowed K L
-          → IsTold shards s K (Read keys) told → IsTold shards s L (Read keys) told
-      tells keys asked K L told agree (read k) = subst (λ v. IsTold shards s L (Read k) (Values v)) (sym (same_values k K L (λ key n. agree key (asked key n)))) (read k)
+      tells : (keys : List Bytes) → ((key : Bytes) → among keys key ≡ true → touches allowed key ≡ true) →
+          (K L : Keyspace) (told : Told) → Agree allowed K L → IsTold shards s K (Read keys) told →
+          IsTold shards s L (Read keys) told
+      tells keys asked K L told agree (read k) =
+          subst (λ v. IsTold shards s L (Read k) (Values v)) (sym (map_alike (held K) (held L) k (λ key n. agree key (asked key n)))) (read k)
       tells keys asked K L told agree (wanted act e) = wanted act e
 
   -- acts on all keys of the shard
   module _ (all : (key : Bytes) → touches allowed key ≡ true) where
     one_keyspace : (K L : Keyspace) → Agree allowed K L → K ≡ L
-    one_keyspace K L agree = same_keyspace K L (λ key. agree key (all key))
+    one_keyspace K L agree = same_map_by K L (λ key. agree key (all key))
 
-    tells_all : (act : Act) (K L : Keyspace) (told : Told) → Agree allowed K L → IsTold shards s K act told → IsTold shards s L act told
+    tells_all : (act : Act) (K L : Keyspace) (told : Told) → Agree allowed K L → IsTold shards s K act told →
+        IsTold shards s L act told
     tells_all act K L told agree is = subst (λ M. IsTold shards s M act told) (one_keyspace K L agree) is
 
     looking_all : (act : Act) → ((changes : Changes) (K : Keyspace) → shown act changes K ≡ K) → Local shards s allowed act
@@ -214,90 +230,33 @@ module _ (shards s : ℕ) (allowed : List Ask) where
       tells = tells_all act;
     }
 
-  running : (command : Command) (a : Access) → access_of command ≡ Some a → ((key : Bytes) → among (names a) key ≡ true → touches allowed key ≡ true)
-      → ((key : Bytes) → among a.writes key ≡ true → writes allowed key ≡ true) → Local shards s allowed (Run command)
+  running : (command : Command) (a : Access) → access_of command ≡ Some a →
+      ((key : Bytes) → among (names a) key ≡ true → touches allowed key ≡ true) →
+      ((key : Bytes) → among a.writes key ≡ true → writes allowed key ≡ true) → Local shards s allowed (Run command)
   running command a is asked written = record {
-    leaves = leaves_told (Run command) allowed (λ changes K inside key w. ap (λ m. held m.1 key) (means command a K is) ∙ others a K key (unless_true (among a.writes key) (writes allowed key) (written key) w));
-    sees = sees_told (Run command) allowed (λ changes K L agree key t. ap (λ m. held m.1 key) (means command a K is) ∙ left K L agree key t (among (names a) key) refl ∙ sym (ap (λ m. held m.1 key) (means command a L is)));
+    leaves = leaves_told (Run command) allowed
+        (λ changes K inside key w. ap (λ m. held m.1 key) (means command a K is)
+        ∙ others a K key (unless_true (among a.writes key) (writes allowed key) (written key) w));
+    sees = sees_told (Run command) allowed
+        (λ changes K L agree key t. ap (λ m. held m.1 key) (means command a K is)
+        ∙ left K L agree key t (among (names a) key) refl ∙ sym (ap (λ m. held m.1 key) (means command a L is)));
     tells = tells;
   }
     where
-      left : (K L : Keyspace) → Agree allowed K L → (key : Bytes) → touches allowed key ≡ true → (b : Bool) → among (names a) key ≡ b → held (does a K).1 key ≡ held (does a L).1 key
+      left : (K L : Keyspace) → Agree allowed K L → (key : Bytes) → touches allowed key ≡ true → (b : Bool) →
+          among (names a) key ≡ b → held (does a K).1 key ≡ held (does a L).1 key
       left K L agree key t true n = same_left a K L (λ k m. agree k (asked k m)) key n
       left K L agree key t false n =
-          let not_written : among a.writes key ≡ false = unless_true (among a.writes key) (among (names a) key) (within a key) n in
-          others a K key not_written ∙ agree key t ∙ sym (others a L key not_written)
+          others a K key (unwritten a key n) ∙ agree key t ∙ sym (others a L key (unwritten a key n))
 
       reply : (K L : Keyspace) → Agree allowed K L → (meaning command K).0 ≡ (meaning command L).0
-      reply K L agree = ap (λ m. m.0) (means command a K is) ∙ same_reply a K L (λ k m. agree k (asked k m)) ∙ sym (ap (λ m. m.0) (means command a L is))
+      reply K L agree =
+          ap (λ m. m.0) (means command a K is) ∙ same_reply a K L (λ k m. agree k (asked k m)) ∙ sym (ap (λ m. m.0) (means command a L is))
 
-      tells : (K L : Keyspace) (told : Told) → Agree allowed K L → IsTold shards s K (Run command) told → IsTold shards s L (Run command) told
+      tells : (K L : Keyspace) (told : Told) → Agree allowed K L → IsTold shards s K (Run command) told →
+          IsTold shards s L (Run command) told
       tells K L told agree (ran c) = subst (λ r. IsTold shards s L (Run command) (Ran r)) (sym (reply K L agree)) (ran command)
       tells K L told agree (wanted act e) = wanted act e
-
--- ---- on which shards the keys of a command stand, by its course
-
-alone_on : (shards s : ℕ) (ms : List (Bytes × Mode)) → course_of_keys shards ms ≡ Alone s → (m : Bytes × Mode) → Has ms m → shard_of m.0 shards ≡ s
-alone_on shards s [] e m h = cc
-alone_on shards s (first ∷ ms) e m h = go (all_on shards (shard_of first.0 shards) ms) refl e
-  where
-    this : (t : ℕ) → Alone t ≡ Alone s → t ≡ s
-    this t e = cc
-
-    not_spread : Spread ≡ Alone s → shard_of m.0 shards ≡ s
-    not_spread e = cc
-
-    each : (t : ℕ) (ns : List (Bytes × Mode)) → all_on shards t ns ≡ true → Has ns m → shard_of m.0 shards ≡ t
-    each t [] e h = absurd h
-    each t (n ∷ ns) e (inl i) = ap (λ k. shard_of k.0 shards) (sym i) ∙ eqb-true (shard_of n.0 shards) t (and_parts (shard_of n.0 shards == t) (all_on shards t ns) e).0
-    each t (n ∷ ns) e (inr h) = each t ns (and_parts (shard_of n.0 shards == t) (all_on shards t ns) e).1 h
-
-    at : (b : Bool) → all_on shards (shard_of first.0 shards) ms ≡ b → b ≡ true → Has (first ∷ ms) m → shard_of m.0 shards ≡ shard_of first.0 shards
-    at b i j (inl k) = ap (λ q. shard_of q.0 shards) (sym k)
-    at b i j (inr k) = each (shard_of first.0 shards) ms (i ∙ j) k
-
-    go : (b : Bool) → all_on shards (shard_of first.0 shards) ms ≡ b → cond b (Alone (shard_of first.0 shards)) Spread ≡ Alone s → shard_of m.0 shards ≡ s
-    go true i e = at true i refl h ∙ this (shard_of first.0 shards) e
-    go false i e = not_spread e
-
--- a course of a command that asks for every key
-is_whole : Course → Bool
-is_whole Nowhere = false
-is_whole (Alone s) = false
-is_whole Spread = false
-is_whole courses.Names = true
-is_whole Counts = true
-is_whole Cuts = true
-is_whole Clears = true
-
-keys_not_whole : (shards : ℕ) (ms : List (Bytes × Mode)) → is_whole (course_of_keys shards ms) ≡ false
-unfolding is_whole
-keys_not_whole shards [] = refl
-keys_not_whole shards (m ∷ ms) = go (all_on shards (shard_of m.0 shards) ms)
-  where
-    go : (b : Bool) → is_whole (cond b (Alone (shard_of m.0 shards)) Spread) ≡ false
-    go true = refl
-    go false = refl
-
-whole_command : (shards : ℕ) (command : Command) → is_whole (course_of shards command) ≡ true → (mode : Mode) × (whole_mode command ≡ Some mode)
-unfolding is_whole
-whole_command shards (Plain op) e = absurd (false≢true e)
-whole_command shards (One key op) e = absurd (false≢true (sym (keys_not_whole shards (keys_of (One key op))) ∙ e))
-whole_command shards (Many op) e = absurd (false≢true (sym (keys_not_whole shards (keys_of (Many op))) ∙ e))
-whole_command shards (Whole op) e = (all_of_op op, refl)
-whole_command shards (Wrong error) e = absurd (false≢true e)
-
-clearing : (shards : ℕ) (command : Command) → course_of shards command ≡ Clears → whole_mode command ≡ Some Exclusive
-unfolding is_whole
-clearing shards (Plain op) e = cc
-clearing shards (One key op) e = absurd (false≢true (sym (keys_not_whole shards (keys_of (One key op))) ∙ ap is_whole e))
-clearing shards (Many op) e = absurd (false≢true (sym (keys_not_whole shards (keys_of (Many op))) ∙ ap is_whole e))
-clearing shards (Whole wholes.Dbsize) e = cc
-clearing shards (Whole (wholes.Keys pattern)) e = cc
-clearing shards (Whole wholes.Flushall) e = refl
-clearing shards (Whole wholes.Flushdb) e = refl
-clearing shards (Whole wholes.Save) e = cc
-clearing shards (Wrong error) e = cc
 
 -- ---- each act of a call is local to what the call asks for
 
@@ -305,53 +264,44 @@ module _ (shards s : ℕ) (call : Call) (command : Command) (within_shards : s <
   -- the keys that the command names on the shard are asked for
   pub asked_on : (key : Bytes) → among (keys_on shards s command) key ≡ true → touches (asks_on shards call s) key ≡ true
   asked_on key n =
-      let there : (shard_of key shards ≡ s) × ((mode : Mode) × Has (keys_of_all (command ∷ [])) (key, mode)) = named_there shards s (command ∷ []) key n in
-      touches_named shards s call command within_shards among_commands key there.1.0 (subst (λ ms. Has ms (key, there.1.0)) (append-nil (keys_of command)) there.1.1) there.0
+      let there : (shard_of key shards ≡ s)
+      × ((mode : Mode) × Has (keys_of_all (command ∷ [])) (key, mode)) = named_there shards s (command ∷ []) key n in
+      touches_named shards s call command within_shards among_commands key there.1.0
+      (subst (λ ms. Has ms (key, there.1.0)) (append-nil (keys_of command)) there.1.1) there.0
 
   -- a key of the shard that the command may write is asked for to be written
-  pub written_on : (a : Access) (key : Bytes) → access_of command ≡ Some a → shard_of key shards ≡ s → among a.writes key ≡ true → writes (asks_on shards call s) key ≡ true
-  written_on a key is e w = writes_named shards s call command within_shards among_commands key (subst (λ o. Has (named o) (key, Exclusive)) (sym is) (exclusive_in a key w)) e
+  pub written_on : (a : Access) (key : Bytes) → access_of command ≡ Some a → shard_of key shards ≡ s →
+      among a.writes key ≡ true → writes (asks_on shards call s) key ≡ true
+  written_on a key is e w =
+      writes_named shards s call command within_shards among_commands key
+      (subst (λ o. Has (named o) (key, Exclusive)) (sym is) (exclusive_in a key w)) e
 
   all_asked : is_whole (course_of shards command) ≡ true → (key : Bytes) → touches (asks_on shards call s) key ≡ true
-  all_asked e key = let mode : (mode : Mode) × (whole_mode command ≡ Some mode) = whole_command shards command e in
-      touches_all shards s call command within_shards among_commands mode.0 mode.1 key
+  all_asked e key =
+      let w = whole_of shards command e in
+      touches_all shards s call command within_shards among_commands (all_of_op w.0) (ap whole_mode w.1) key
 
-  run_named : (a : Access) → access_of command ≡ Some a → course_of_keys shards (named (Some a)) ≡ Alone s → Local shards s (asks_on shards call s) (Run command)
-  run_named a is e = running shards s (asks_on shards call s) command a is asked written
+  run_one : (a : Access) → OnOne shards s command a → Local shards s (asks_on shards call s) (Run command)
+  run_one a one = running shards s (asks_on shards call s) command a one.is asked written
     where
-      here : (key : Bytes) (mode : Mode) → Has (named (Some a)) (key, mode) → shard_of key shards ≡ s
-      here key mode h = alone_on shards s (named (Some a)) e (key, mode) h
-
       asked : (key : Bytes) → among (names a) key ≡ true → touches (asks_on shards call s) key ≡ true
       asked key n =
           let m : (mode : Mode) × Has (named (Some a)) (key, mode) = named_in_mode a key n in
-          touches_named shards s call command within_shards among_commands key m.0 (subst (λ o. Has (named o) (key, m.0)) (sym is) m.1) (here key m.0 m.1)
+          touches_named shards s call command within_shards among_commands key m.0
+          (subst (λ o. Has (named o) (key, m.0)) (sym one.is) m.1) (one.on key n)
 
       written : (key : Bytes) → among a.writes key ≡ true → writes (asks_on shards call s) key ≡ true
-      written key w = written_on a key is (here key Exclusive (exclusive_in a key w)) w
+      written key w = written_on a key one.is (one.on key (within a key w)) w
 
   -- a flush where there is one shard
-  run_whole : (op : WholeOp) → command ≡ Whole op → course_of shards (Whole op) ≡ Alone s → Local shards s (asks_on shards call s) (Run command)
-  run_whole op is e = writing_all shards s (asks_on shards call s) (touches_all shards s call command within_shards among_commands (all_of_op op) (ap whole_mode is)) (Run command)
-      (writes_all shards s call command within_shards among_commands (ap whole_mode is ∙ go op e))
-    where
-      go : (op : WholeOp) → course_of shards (Whole op) ≡ Alone s → Some (all_of_op op) ≡ Some Exclusive
-      go wholes.Dbsize e = cc
-      go (wholes.Keys pattern) e = cc
-      go wholes.Flushall e = refl
-      go wholes.Flushdb e = refl
-      go wholes.Save e = cc
-
-  run : (c : Command) → command ≡ c → course_of shards c ≡ Alone s → Local shards s (asks_on shards call s) (Run command)
-  run (Plain op) is e = cc
-  run (One key op) is e = run_named (on_key key (one op)) (ap access_of is) e
-  run (Many op) is e = run_named (many op) (ap access_of is) e
-  run (Whole op) is e = run_whole op is e
-  run (Wrong error) is e = cc
+  run_all : OfAll shards s command → Local shards s (asks_on shards call s) (Run command)
+  run_all all =
+      let mode = flush_writes command all.flush in
+      writing_all shards s (asks_on shards call s) (touches_all shards s call command within_shards among_commands Exclusive mode)
+      (Run command) (writes_all shards s call command within_shards among_commands mode)
 
   may_do : (act : Act) → MayDo shards s command act → Local shards s (asks_on shards call s) act
-  unfolding is_whole
-  may_do act (runs e) = run command refl e
+  may_do act (runs e) = elim (alone_either shards s command e) [ inl one ↦ run_one one.0 one.1 | inr all ↦ run_all all ]
   may_do act (reads e) = reading shards s (asks_on shards call s) (keys_on shards s command) asked_on
   may_do act (stages K e) = staging shards s (asks_on shards call s) (changes_on shards s command K)
   may_do act (applies e) = applying shards s (asks_on shards call s)
@@ -360,8 +310,12 @@ module _ (shards s : ℕ) (call : Call) (command : Command) (within_shards : s <
   may_do act (counts e) = looking_all shards s (asks_on shards call s) (all_asked (ap is_whole e)) Count (λ changes K. refl)
   may_do act (begins e) = looking_all shards s (asks_on shards call s) (all_asked (ap is_whole e)) Begin (λ changes K. refl)
   may_do act (stages_none e) = staging shards s (asks_on shards call s) []
-  may_do act (clears e) = writing_all shards s (asks_on shards call s) (all_asked (ap is_whole e)) Clear (writes_all shards s call command within_shards among_commands (clearing shards command e))
+  may_do act (clears e) =
+      writing_all shards s (asks_on shards call s) (all_asked (ap is_whole e)) Clear
+      (writes_all shards s call command within_shards among_commands (flush_writes command (flushes shards command e)))
   may_do act (unstages_none e) = unstaging shards s (asks_on shards call s)
 
-pub acts_are_local : (shards s : ℕ) (call : Call) (act : Act) → Belongs shards s call act → Local shards s (asks_on shards call s) act
+-- what a call may do on a shard is local to what it asks for there
+pub acts_are_local : (shards s : ℕ) (call : Call) (act : Act) → Belongs shards s call act →
+    Local shards s (asks_on shards call s) act
 acts_are_local shards s call act b = may_do shards s call b.command b.within b.among act b.may

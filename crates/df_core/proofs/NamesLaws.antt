@@ -24,7 +24,8 @@ abbrev bare : List (Bytes × Value) → List (Bytes × Unit {0})
 bare [] = []
 bare (e ∷ es) = (e.0, tt) ∷ bare es
 
-below_bare : (key : Bytes) (es : List (Bytes × Value)) → below_all (slice_cmp nat_cmp) key (bare es) ≡ below_all (slice_cmp nat_cmp) key es
+below_bare : (key : Bytes) (es : List (Bytes × Value)) →
+    below_all (slice_cmp nat_cmp) key (bare es) ≡ below_all (slice_cmp nat_cmp) key es
 below_bare key [] = refl
 below_bare key (e ∷ es) = ap (λ b. is_lt (slice_cmp nat_cmp key e.0) && b) (below_bare key es)
 
@@ -38,13 +39,19 @@ keys_bare (e ∷ es) = ap (λ keys. e.0 ∷ keys) (keys_bare es)
 
 -- a set with the keys of a keyspace has them in the same order
 same_keys : (s : Members) (K : Keyspace) → ((key : Bytes) → contains s key ≡ contains_key K key) → items s ≡ fin.keys K
-same_keys s K h = ap (λ t. items t) (same_members s keys_of (λ key. h key ∙ contains_key-keys K key ∙ sym (contains_key-keys keys_of key ∙ ap (list_any (tied key)) items_of))) ∙ items_of
+same_keys s K h =
+    ap (λ t. items t) (same_members s keys_of
+    (λ key. h key ∙ contains_key-keys K key ∙ sym (contains_key-keys keys_of key ∙ ap (list_any (tied key)) items_of)))
+    ∙ items_of
   where
     keys_of : Members
     keys_of = fin.from_sorted (bare (fin.entries K))
 
     items_of : items keys_of ≡ fin.keys K
-    items_of = ap (map (λ e. e.0)) (entries-from_sorted (slice_cmp nat_cmp) (bare (fin.entries K)) (subst T (sym (sorted_bare (fin.entries K))) (entries_sorted K))) ∙ keys_bare (fin.entries K)
+    items_of =
+        ap (map (λ e. e.0)) (entries-from_sorted (slice_cmp nat_cmp) (bare (fin.entries K))
+        (subst T (sym (sorted_bare (fin.entries K))) (entries_sorted K)))
+        ∙ keys_bare (fin.entries K)
 
 -- ---- the names of the shards together
 
@@ -54,14 +61,16 @@ in_either None (Some w) = refl
 in_either (Some v) None = refl
 in_either (Some v) (Some w) = refl
 
-in_pairs : (pairs : List (Bytes × Value)) (K : Keyspace) (key : Bytes) → contains_key (with_pairs pairs K) key ≡ (contains_key K key || list_any (tied key) (map (λ e. e.0) pairs))
+in_pairs : (pairs : List (Bytes × Value)) (K : Keyspace) (key : Bytes) →
+    contains_key (with_pairs pairs K) key ≡ (contains_key K key || list_any (tied key) (map (λ e. e.0) pairs))
 in_pairs pairs K key =
     ap is_some (held_with_pairs pairs K key)
     ∙ in_either (find (slice_cmp nat_cmp) key pairs) (held K key)
     ∙ ap (λ b. contains_key K key || b) (is_some-find (slice_cmp nat_cmp) key pairs)
 
 module _ (shards : ℕ) (parts : ℕ → Part) (names : ℕ → List Bytes) where
-  in_joined : (n : ℕ) → ((s : ℕ) → s < n → names s ≡ fin.keys (own_keys shards s (parts s).visible)) → (key : Bytes) → contains (names_of names n) key ≡ contains_key (joined_to shards parts n) key
+  in_joined : (n : ℕ) → ((s : ℕ) → s < n → names s ≡ fin.keys (own_keys shards s (parts s).visible)) → (key : Bytes) →
+      contains (names_of names n) key ≡ contains_key (joined_to shards parts n) key
   in_joined zero told key = ap is_some (get-empty (slice_cmp nat_cmp) key) ∙ sym (ap is_some (get-empty (slice_cmp nat_cmp) key))
   in_joined (suc t) told key =
       in_with_all (names t) (names_of names t) key
@@ -70,5 +79,6 @@ module _ (shards : ℕ) (parts : ℕ → Part) (names : ℕ → List Bytes) wher
       ∙ sym (in_pairs (fin.entries (own_keys shards t (parts t).visible)) (joined_to shards parts t) key)
 
   -- where the first n shards told the names of their keys, these are together all names, in byte order
-  pub names_joined : (n : ℕ) → ((s : ℕ) → s < n → names s ≡ fin.keys (own_keys shards s (parts s).visible)) → items (names_of names n) ≡ fin.keys (joined_to shards parts n)
+  pub names_joined : (n : ℕ) → ((s : ℕ) → s < n → names s ≡ fin.keys (own_keys shards s (parts s).visible)) →
+      items (names_of names n) ≡ fin.keys (joined_to shards parts n)
   names_joined n told = same_keys (names_of names n) (joined_to shards parts n) (in_joined n told)

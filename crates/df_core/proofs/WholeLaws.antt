@@ -1,7 +1,6 @@
 -- KEYS, DBSIZE, SAVE and FLUSHALL on several shards do what one thread does.
-use Rattle.std.proofs.Common.{◌≡◌, ℕ, zero, suc, ◌<◌, Bool, true, false, cond, List, [], ◌∷◌, inl, inr, refl, sym, ap, subst, ◌∙◌, arith}
+use Rattle.std.proofs.Common.{◌≡◌, ℕ, ◌<◌, Bool, true, false, List, [], ◌∷◌, inl, inr, refl, sym, ap, subst, ◌∙◌}
 use Rattle.std.specs.List.{filter}
-use Rattle.std.specs.FinMap as fin
 use Rattle.df_model.specs.Values.{Bytes}
 use Rattle.df_model.specs.Members as members
 use Rattle.df_model.specs.Keyspace.{Keyspace, held, no_keys}
@@ -9,86 +8,43 @@ use Rattle.df_model.specs.Hash.{shard_of}
 use Rattle.df_model.specs.Patterns.{is_match}
 use Rattle.df_model.specs.Outcomes.{ok, count, bulks}
 use Rattle.df_model.specs.Calls.{Does}
-use Rattle.df_model.specs.declared.keys.Mode.{Mode}
 use Rattle.df_model.specs.declared.command.WholeOp.TheVariants as wholes
 use Rattle.df_model.specs.declared.command.Command.{Command}
-use Rattle.df_model.specs.declared.command.Command.TheVariants.{Plain, One, Many, Whole, Wrong}
+use Rattle.df_model.specs.declared.command.Command.TheVariants.{Whole}
 use Rattle.df_model.specs.declared.reply.Reply.{Reply}
-use Rattle.df_footprints.specs.Footprints.{keys_of}
 use Rattle.df_log.specs.Acts.{Act, Stage, Begin, Walk, Count, Clear, Told, Staged, Number, Cut}
 use Rattle.df_log.specs.Acts as acts
-use Rattle.df_log.specs.Parts.{Part, IsTold, own_keys, did}
-use Rattle.df_core.specs.Courses.{Alone, Spread, Clears, course_of, course_of_keys, all_on}
+use Rattle.df_log.specs.Parts.{Part, did}
+use Rattle.df_core.specs.Courses.{Clears, course_of}
 use Rattle.df_core.specs.Steps.{Step, after_steps, AllTold}
-use Rattle.df_core.specs.Joined.{with_pairs, joined_to, joined}
-use Rattle.df_core.specs.Done.{OnEach, Wanted, IsSaveReply, names_of, sum_of, want_of_memory, first_step, stage_step, apply_step, unstage_step}
-use Rattle.df_core.proofs.JoinedLaws.{same_keyspace, held_joined}
+use Rattle.df_core.specs.Joined.{joined}
+use Rattle.df_core.specs.Done.{OnEach, IsSaveReply, names_of, sum_of, want_of_memory, first_step, stage_step, apply_step, unstage_step}
+use Rattle.df_core.proofs.CourseLaws.{below_shards, Flushes, flushes}
+use Rattle.df_core.proofs.StepLaws.{told_names, told_number, either_way}
+use Rattle.df_core.proofs.JoinedLaws.{joined_is, same_joined}
 use Rattle.df_core.proofs.NamesLaws.{names_joined}
 use Rattle.df_core.proofs.SumsLaws.{sum_joined}
 
 -- ---- what the shards show together
 
--- where the first m shards show the same, they show the same together
-pub same_joined : (shards m : ℕ) (parts others : ℕ → Part) → ((s : ℕ) → s < m → (parts s).visible ≡ (others s).visible) → joined_to shards parts m ≡ joined_to shards others m
-same_joined shards zero parts others same = refl
-same_joined shards (suc t) parts others same = λ i. with_pairs (fin.entries (own_keys shards t (same t (omega arith) i))) (same_joined shards t parts others (λ s lt. same s (omega (arith, lt))) i)
-
 -- where every shard shows nothing, they show nothing together
-none_joined : (shards : ℕ) (parts : ℕ → Part) → 0 < shards → ((s : ℕ) → s < shards → (parts s).visible ≡ no_keys) → joined shards parts ≡ no_keys
-none_joined shards parts pos none = same_keyspace (joined shards parts) no_keys (λ key.
-    held_joined shards parts key pos ∙ ap (λ K. held K key) (none (shard_of key shards) (omega (arith, pos))))
+none_joined : (shards : ℕ) (parts : ℕ → Part) → 0 < shards → ((s : ℕ) → s < shards → (parts s).visible ≡ no_keys) →
+    joined shards parts ≡ no_keys
+none_joined shards parts pos none =
+    joined_is shards parts no_keys pos (λ key. ap (λ K. held K key) (none (shard_of key shards) (below_shards key shards pos)))
 
--- ---- what a shard was told
-
-told_names : (shards s : ℕ) (K : Keyspace) (names : List Bytes) → IsTold shards s K Walk (acts.Names names) → names ≡ fin.keys (own_keys shards s K)
-told_names shards s K names IsTold.walked = refl
-
-told_number : (shards s : ℕ) (K : Keyspace) (n : ℕ) → IsTold shards s K Count (Number n) → n ≡ fin.len (own_keys shards s K)
-told_number shards s K n IsTold.counted = refl
-
--- ---- which commands clear
-
-not_clears : (shards : ℕ) (keys : List (Bytes × Mode)) → course_of_keys shards keys ≡ Clears → ⊥
-not_clears shards [] e = cc
-not_clears shards (m ∷ keys) e = go (all_on shards (shard_of m.0 shards) keys) e
-  where
-    go : (b : Bool) → cond b (Alone (shard_of m.0 shards)) Spread ≡ Clears → ⊥
-    go true e = cc
-    go false e = cc
-
--- only FLUSHALL and FLUSHDB clear
-data Flushes : Command → Type 0 where
-  all : Flushes (Whole wholes.Flushall)
-  one : Flushes (Whole wholes.Flushdb)
-
-flushes : (shards : ℕ) (command : Command) → course_of shards command ≡ Clears → Flushes command
-flushes shards (Plain op) e = cc
-flushes shards (One key op) e = absurd (not_clears shards (keys_of (One key op)) e)
-flushes shards (Many op) e = absurd (not_clears shards (keys_of (Many op)) e)
-flushes shards (Whole wholes.Dbsize) e = cc
-flushes shards (Whole (wholes.Keys pattern)) e = cc
-flushes shards (Whole wholes.Flushall) e = all
-flushes shards (Whole wholes.Flushdb) e = one
-flushes shards (Whole wholes.Save) e = cc
-flushes shards (Wrong error) e = cc
+-- ---- FLUSHALL and FLUSHDB
 
 -- kept, it leaves nothing; else all stays
 flush_kept : (command : Command) (K : Keyspace) → Flushes command → Does command true K ok no_keys
-flush_kept command K all = refl
-flush_kept command K one = refl
+flush_kept command K Flushes.flushall = refl
+flush_kept command K Flushes.flushdb = refl
 
 flush_wanted : (command : Command) (K : Keyspace) → Flushes command → Does command false K want_of_memory K
-flush_wanted command K all = (refl, inl refl)
-flush_wanted command K one = (refl, inl refl)
+flush_wanted command K Flushes.flushall = (refl, inl refl)
+flush_wanted command K Flushes.flushdb = (refl, inl refl)
 
 -- ---- the law, for each way to be done
-
-either : (told : Told) (K : Keyspace) → cond (did told) K K ≡ K
-either told K = go (did told)
-  where
-    go : (b : Bool) → cond b K K ≡ K
-    go true = refl
-    go false = refl
 
 module _ (shards i n : ℕ) (command : Command) (own : ℕ → List Step) (parts : ℕ → Part) where
   -- a command and a keyspace before, a reply, and what the shards show together behind the steps
@@ -99,44 +55,52 @@ module _ (shards i n : ℕ) (command : Command) (own : ℕ → List Step) (parts
     shows : (s : ℕ) → s < shards → (after_steps n (own s) (parts s)).visible ≡ (after_steps n (these s) (parts s)).visible
     shows s lt = ap (λ steps. (after_steps n steps (parts s)).visible) (each.within s lt)
 
-    stays : ((s : ℕ) → (after_steps n (these s) (parts s)).visible ≡ (parts s).visible) → joined shards (λ s. after_steps n (own s) (parts s)) ≡ joined shards parts
+    stays : ((s : ℕ) → (after_steps n (these s) (parts s)).visible ≡ (parts s).visible) →
+        joined shards (λ s. after_steps n (own s) (parts s)) ≡ joined shards parts
     stays same = same_joined shards shards (λ s. after_steps n (own s) (parts s)) parts (λ s lt. shows s lt ∙ same s)
 
     told_each : ((s : ℕ) → AllTold shards s n (own s) (parts s)) → (s : ℕ) → s < shards → AllTold shards s n (these s) (parts s)
     told_each told s lt = subst (λ steps. AllTold shards s n steps (parts s)) (each.within s lt) (told s)
 
-  pub names_does : ((s : ℕ) → AllTold shards s n (own s) (parts s)) → (pattern : Bytes) (names : ℕ → List Bytes) → command ≡ Whole (wholes.Keys pattern)
-      → OnEach shards own (λ s. first_step i Walk (acts.Names (names s)) ∷ []) → Ends false (bulks (filter (is_match pattern) (members.items (names_of names shards))))
+  -- what the shards told together is what one thread is told
+  pub names_does : ((s : ℕ) → AllTold shards s n (own s) (parts s)) → (pattern : Bytes) (names : ℕ → List Bytes) →
+      command ≡ Whole (wholes.Keys pattern) → OnEach shards own (λ s. first_step i Walk (acts.Names (names s)) ∷ []) →
+      Ends false (bulks (filter (is_match pattern) (members.items (names_of names shards))))
   names_does told pattern names is each = rw is (
     stays _ each (λ s. refl),
-    inr (ap (λ items. (bulks (filter (is_match pattern) items), joined shards parts)) (sym (names_joined shards parts names shards (λ s lt. told_names shards s (parts s).visible (names s) (told_each _ each told s lt).0)))))
+    inr (ap (λ items. (bulks (filter (is_match pattern) items), joined shards parts))
+        (sym (names_joined shards parts names shards (λ s lt. told_names shards s (parts s).visible (names s) (told_each _ each told s lt).0)))),
+  )
 
-  pub counts_does : ((s : ℕ) → AllTold shards s n (own s) (parts s)) → (numbers : ℕ → ℕ) → command ≡ Whole wholes.Dbsize
-      → OnEach shards own (λ s. first_step i Count (Number (numbers s)) ∷ []) → Ends false (count (sum_of numbers shards))
+  pub counts_does : ((s : ℕ) → AllTold shards s n (own s) (parts s)) → (numbers : ℕ → ℕ) →
+      command ≡ Whole wholes.Dbsize → OnEach shards own (λ s. first_step i Count (Number (numbers s)) ∷ []) →
+      Ends false (count (sum_of numbers shards))
   counts_does told numbers is each = rw is (
     stays _ each (λ s. refl),
-    inr (ap (λ k. (count k, joined shards parts)) (sym (sum_joined shards parts numbers shards (λ s lt. told_number shards s (parts s).visible (numbers s) (told_each _ each told s lt).0)))))
+    inr (ap (λ k. (count k, joined shards parts))
+        (sym (sum_joined shards parts numbers shards (λ s lt. told_number shards s (parts s).visible (numbers s) (told_each _ each told s lt).0)))),
+  )
 
-  pub names_wanted_does : (pattern : Bytes) (answers : ℕ → Told) → command ≡ Whole (wholes.Keys pattern)
-      → OnEach shards own (λ s. first_step i Walk (answers s) ∷ []) → Ends false want_of_memory
-  names_wanted_does pattern answers is each = rw is (stays _ each (λ s. either (answers s) (parts s).visible), inl refl)
+  pub names_wanted_does : (pattern : Bytes) (answers : ℕ → Told) → command ≡ Whole (wholes.Keys pattern) →
+      OnEach shards own (λ s. first_step i Walk (answers s) ∷ []) → Ends false want_of_memory
+  names_wanted_does pattern answers is each = rw is (stays _ each (λ s. either_way (did (answers s)) (parts s).visible), inl refl)
 
-  pub counts_wanted_does : (answers : ℕ → Told) → command ≡ Whole wholes.Dbsize
-      → OnEach shards own (λ s. first_step i Count (answers s) ∷ []) → Ends false want_of_memory
-  counts_wanted_does answers is each = rw is (stays _ each (λ s. either (answers s) (parts s).visible), inl refl)
+  pub counts_wanted_does : (answers : ℕ → Told) → command ≡ Whole wholes.Dbsize →
+      OnEach shards own (λ s. first_step i Count (answers s) ∷ []) → Ends false want_of_memory
+  counts_wanted_does answers is each = rw is (stays _ each (λ s. either_way (did (answers s)) (parts s).visible), inl refl)
 
-  pub cuts_does : (pairs : ℕ → Keyspace) (reply : Reply) → command ≡ Whole wholes.Save
-      → OnEach shards own (λ s. first_step i Begin (Cut (pairs s)) ∷ []) → IsSaveReply reply → Ends false reply
+  pub cuts_does : (pairs : ℕ → Keyspace) (reply : Reply) → command ≡ Whole wholes.Save →
+      OnEach shards own (λ s. first_step i Begin (Cut (pairs s)) ∷ []) → IsSaveReply reply → Ends false reply
   cuts_does pairs reply is each may = rw is (stays _ each (λ s. refl), may)
 
-  pub cleared_does : 0 < shards → course_of shards command ≡ Clears
-      → OnEach shards own (λ s. stage_step i (Stage []) Staged ∷ apply_step i Clear ∷ []) → Ends true ok
+  pub cleared_does : 0 < shards → course_of shards command ≡ Clears →
+      OnEach shards own (λ s. stage_step i (Stage []) Staged ∷ apply_step i Clear ∷ []) → Ends true ok
   cleared_does pos is each =
       subst (Does command true (joined shards parts) ok) (sym (none_joined shards (λ s. after_steps n (own s) (parts s)) pos (shows _ each)))
       (flush_kept command (joined shards parts) (flushes shards command is))
 
-  pub kept_all_does : (answers : ℕ → Told) → course_of shards command ≡ Clears
-      → OnEach shards own (λ s. stage_step i (Stage []) (answers s) ∷ unstage_step i ∷ []) → Ends false want_of_memory
+  pub kept_all_does : (answers : ℕ → Told) → course_of shards command ≡ Clears →
+      OnEach shards own (λ s. stage_step i (Stage []) (answers s) ∷ unstage_step i ∷ []) → Ends false want_of_memory
   kept_all_does answers is each =
-      subst (Does command false (joined shards parts) want_of_memory) (sym (stays _ each (λ s. either (answers s) (parts s).visible)))
+      subst (Does command false (joined shards parts) want_of_memory) (sym (stays _ each (λ s. either_way (did (answers s)) (parts s).visible)))
       (flush_wanted command (joined shards parts) (flushes shards command is))

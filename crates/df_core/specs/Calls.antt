@@ -1,5 +1,5 @@
 -- The calls of clients on shards, as the order law sees calls.
-use Rattle.std.specs.Prelude.{◌≡◌, ℕ, Bool, true, Some, List, []}
+use Rattle.std.specs.Prelude.{◌≡◌, ℕ, Bool, true, List, []}
 use Rattle.df_model.specs.Keyspace.{Keyspace}
 use Rattle.df_model.specs.Calls.{Allowed}
 use Rattle.df_model.specs.declared.command.Call.{Call}

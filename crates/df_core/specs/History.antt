@@ -1,8 +1,8 @@
 -- The one history of calls on shards: an item for each number that was executed, in the order of the numbers.
-use Rattle.std.specs.Prelude.{◌≡◌, ◌≢◌, ℕ, ◌<◌, ◌≤◌, Bool, List, [], ◌∷◌, map, None}
+use Rattle.std.specs.Prelude.{◌≡◌, ◌≢◌, ℕ, ◌≤◌, List, [], ◌∷◌, map, None}
 use Rattle.std.specs.List.{AllByRecursion}
 use Rattle.df_model.specs.Keyspace.{Keyspace}
-use Rattle.df_model.specs.History.{Item, Leads, RisesFrom}
+use Rattle.df_model.specs.History.{Item, RisesFrom}
 use Rattle.df_model.specs.Spared.{all_of}
 use Rattle.df_model.specs.declared.command.Call.{Call}
 use Rattle.df_model.specs.declared.command.Call.TheVariants.{Exec}

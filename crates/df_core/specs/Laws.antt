@@ -10,7 +10,7 @@ use Rattle.df_model.specs.declared.reply.Reply.{Reply}
 use Rattle.df_order.specs.Lists.{Has}
 use Rattle.df_order.specs.Model.{Laws}
 use Rattle.df_order.specs.Histories as order
-use Rattle.df_world.specs.World.{World, first, logs}
+use Rattle.df_world.specs.World.{World, first}
 use Rattle.df_world.specs.Events.{Event, Happens, after, Runs}
 use Rattle.df_world.specs.TheList.{Finds, the_list}
 use Rattle.df_world.specs.Invariant.{Invariant}

@@ -2,6 +2,7 @@
 use Rattle.std.proofs.Common.{◌≡◌, ◌⊎◌, inl, inr, Bool, true, false, List, [], ◌∷◌, refl, sym, ap, ◌∙◌}
 use Rattle.std.specs.Prelude.{Option, Some, None, ◌||◌, ◌&&◌}
 use Rattle.std.proofs.lemmas.Bool.{false≢true, and_parts, or_parts, or_left, or_right, or_cases}
+use Rattle.std.proofs.Math.Bool.{or_comm}
 use Rattle.df_model.specs.Values.{Bytes}
 use Rattle.df_model.specs.Words.{same}
 use Rattle.df_model.specs.declared.keys.Keys.{Keys}
@@ -9,12 +10,6 @@ use Rattle.df_footprints.specs.Asks.{Ask, asks, is_exclusive, overlap, clash, cl
 use Rattle.df_footprints.proofs.ModesLaws.{same_key, same_comm}
 
 -- ---- conflicts are the same from both sides
-
-or_comm : (a b : Bool) → (a || b) ≡ (b || a)
-or_comm true true = refl
-or_comm true false = refl
-or_comm false true = refl
-or_comm false false = refl
 
 overlap_comm : (a b : Option Bytes) → overlap a b ≡ overlap b a
 overlap_comm None None = refl
@@ -50,17 +45,20 @@ some_clash_comm : (ks ls : List Ask) → some_clash ks ls ≡ some_clash ls ks
 some_clash_comm [] ls = sym (none_clash ls)
 some_clash_comm (a ∷ ks) ls = ap (λ c. clashes_with a ls || c) (some_clash_comm ks ls) ∙ sym (some_clash-more ls a ks)
 
+-- the one conflicts with the other where the other does with the one
 pub conflicts_comm : (k l : Keys) → conflicts k l ≡ conflicts l k
 conflicts_comm k l = some_clash_comm (asks k) (asks l)
 
 -- ---- a key that the one is to write isn't asked for by the other
 
-overlap_apart : (a b : Option Bytes) (key : Bytes) → overlap a (Some key) ≡ true → overlap a b ≡ false → overlap b (Some key) ≡ false
+overlap_apart : (a b : Option Bytes) (key : Bytes) → overlap a (Some key) ≡ true → overlap a b ≡ false →
+    overlap b (Some key) ≡ false
 overlap_apart None b key i e = cc
 overlap_apart (Some k) None key i e = cc
 overlap_apart (Some k) (Some q) key i e = same_comm q key ∙ ap (λ n. same n q) (sym (same_key k key i)) ∙ e
 
-untouched_by : (a : Ask) (ls : List Ask) (key : Bytes) → is_exclusive a.mode ≡ true → overlap a.key (Some key) ≡ true → clashes_with a ls ≡ false → touches ls key ≡ false
+untouched_by : (a : Ask) (ls : List Ask) (key : Bytes) → is_exclusive a.mode ≡ true → overlap a.key (Some key) ≡ true →
+    clashes_with a ls ≡ false → touches ls key ≡ false
 untouched_by a [] key x i e = refl
 untouched_by a (b ∷ ls) key x i e =
     let both : (clash a b ≡ false) × (clashes_with a ls ≡ false) = or_parts (clash a b) (clashes_with a ls) e in
@@ -72,17 +70,21 @@ untouched_by a (b ∷ ls) key x i e =
     go true false n x e = absurd (false≢true x)
     go false m n x e = refl
 
-pub untouched : (ks ls : List Ask) (key : Bytes) → some_clash ks ls ≡ false → writes ks key ≡ true → touches ls key ≡ false
+untouched : (ks ls : List Ask) (key : Bytes) → some_clash ks ls ≡ false → writes ks key ≡ true → touches ls key ≡ false
 untouched [] ls key e w = cc
 untouched (a ∷ ks) ls key e w = go (or_cases (is_exclusive a.mode && overlap a.key (Some key)) (writes ks key) w) (untouched ks ls key)
   where
     both : (clashes_with a ls ≡ false) × (some_clash ks ls ≡ false)
     both = or_parts (clashes_with a ls) (some_clash ks ls) e
 
-    go : ((is_exclusive a.mode && overlap a.key (Some key)) ≡ true) ⊎ (writes ks key ≡ true) → (some_clash ks ls ≡ false → writes ks key ≡ true → touches ls key ≡ false) → touches ls key ≡ false
-    go (inl i) more = let is : (is_exclusive a.mode ≡ true) × (overlap a.key (Some key) ≡ true) = and_parts (is_exclusive a.mode) (overlap a.key (Some key)) i in untouched_by a ls key is.0 is.1 both.0
+    go : ((is_exclusive a.mode && overlap a.key (Some key)) ≡ true) ⊎ (writes ks key ≡ true) →
+        (some_clash ks ls ≡ false → writes ks key ≡ true → touches ls key ≡ false) → touches ls key ≡ false
+    go (inl i) more =
+        let is : (is_exclusive a.mode ≡ true) × (overlap a.key (Some key) ≡ true) = and_parts (is_exclusive a.mode) (overlap a.key (Some key)) i in
+        untouched_by a ls key is.0 is.1 both.0
     go (inr i) more = more both.1 i
 
+-- of what two calls ask for
 pub left_alone : (k l : Keys) (key : Bytes) → conflicts k l ≡ false → writes (asks k) key ≡ true → touches (asks l) key ≡ false
 left_alone k l key e w = untouched (asks k) (asks l) key e w
 
@@ -91,6 +93,7 @@ pub writes-touches : (ks : List Ask) (key : Bytes) → writes ks key ≡ true �
 writes-touches [] key w = w
 writes-touches (a ∷ ks) key w = go (or_cases (is_exclusive a.mode && overlap a.key (Some key)) (writes ks key) w) (writes-touches ks key)
   where
-    go : ((is_exclusive a.mode && overlap a.key (Some key)) ≡ true) ⊎ (writes ks key ≡ true) → (writes ks key ≡ true → touches ks key ≡ true) → (overlap a.key (Some key) || touches ks key) ≡ true
+    go : ((is_exclusive a.mode && overlap a.key (Some key)) ≡ true) ⊎ (writes ks key ≡ true) →
+        (writes ks key ≡ true → touches ks key ≡ true) → (overlap a.key (Some key) || touches ks key) ≡ true
     go (inl i) more = or_left (overlap a.key (Some key)) (touches ks key) (and_parts (is_exclusive a.mode) (overlap a.key (Some key)) i).1
     go (inr i) more = or_right (overlap a.key (Some key)) (touches ks key) (more i)

@@ -141,7 +141,8 @@ module _ (M : Model) (laws : Laws M) (calls : ℕ → M.Call) (s : ℕ) where
           (omega arith, (b f r.0).lower lt) in
           let low : n ≤ M.number e = omega arith in
           subst (λ l. Alike M calls s x (e ∷ upto M n log ++ own M n log) (l ++ own M n (e ∷ log))) (sym (upto_low M n e log low))
-          (subst (λ l. Alike M calls s x (e ∷ upto M n log ++ own M n log) (upto M n log ++ l)) (sym (own_same M n e log i)) (sink x e (upto M n log) (own M n log) apart a))
+          (subst (λ l. Alike M calls s x (e ∷ upto M n log ++ own M n log) (upto M n log ++ l))
+          (sym (own_same M n e log i)) (sink x e (upto M n log) (own M n log) apart a))
 
   -- a log in order does the same sorted by number, and each entry fits where it then stands
   pub sorted : (n : ℕ) (x : M.State) (log : List M.Entry) → IsInOrder M calls s log →
@@ -166,5 +167,8 @@ module _ (M : Model) (laws : Laws M) (calls : ℕ → M.Call) (s : ℕ) where
           FitAll M calls s x (cons_if b e (only (λ f. keep (M.number f)) log))
       go true i r = (a.0, r)
       go false i r = erase x e (only (λ f. keep (M.number f)) log)
-          (λ f h. let k = has_only (λ g. keep (M.number g)) log f h in let ne : M.number e ≢ M.number f = λ j. false≢true (sym i ∙ ap keep j ∙ k.1) in (ne, (c.0 f k.0).by i ne))
+          (λ f h.
+          let k = has_only (λ g. keep (M.number g)) log f h in
+          let ne : M.number e ≢ M.number f = λ j. false≢true (sym i ∙ ap keep j ∙ k.1) in
+          (ne, (c.0 f k.0).by i ne))
           (a.0, r)

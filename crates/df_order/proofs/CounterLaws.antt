@@ -51,7 +51,8 @@ put_twice j k a b x ne = λ i l. at l i
 apart : (s : ℕ) (c d : Add) → conflict counters (counters.footprint c s) (counters.footprint d s) ≡ false → place c.key ≡ s → place d.key ≡ s → c.key ≢ d.key
 apart s c d free e f i =
     false≢true
-    (sym (sym (ap (λ o. conflict counters o (counters.footprint d s)) (asks c s e) ∙ ap (conflict counters (Some c.key)) (asks d s f)) ∙ free) ∙ eq-eqb c.key d.key i)
+    (sym (sym (ap (λ o. conflict counters o (counters.footprint d s)) (asks c s e)
+    ∙ ap (conflict counters (Some c.key)) (asks d s f)) ∙ free) ∙ eq-eqb c.key d.key i)
 
 swap : (s : ℕ) (c d : Add) (e f : Added) (x : ℕ → ℕ) → conflict counters (counters.footprint c s) (counters.footprint d s) ≡ false →
     counters.Tells s c e x → counters.Tells s d f (counters.effect e x) → Swapped counters s c d e f x
@@ -84,7 +85,8 @@ composes calls n es xs r gives fit own = (sym gives.3 ∙ tells.1, λ i k. at k 
         let mine = own (place (calls n).key) gives.0 (subst (λ l. Has l gives.0) (sym gives.1) (inl refl)) in
         subst (λ m. counters.Tells (place (calls n).key) (calls m) gives.0 (xs (place (calls n).key))) mine one.0.0
 
-    at : (k : ℕ) → replay counters (xs (place k)) (es (place k)) k ≡ put (calls n).key (xs (place (calls n).key) (calls n).key + (calls n).amount) (λ j. xs (place j) j) k
+    at : (k : ℕ) →
+        replay counters (xs (place k)) (es (place k)) k ≡ put (calls n).key (xs (place (calls n).key) (calls n).key + (calls n).amount) (λ j. xs (place j) j) k
     at k = elim (eqb_tells (place k) (place (calls n).key)) [
       | inl t ↦
           ap (λ u. replay counters (xs u) (es u) k) t.1
@@ -111,8 +113,15 @@ counters_keep = record {
   none_whole = λ c es h nil. absurd (names_one c h);
   whole_some = λ c es w nil. absurd (subst Full (sym w.1.1 ∙ nil (place c.key)) tt);
   quick_one = λ c s t q h k. sym (asked c t k) ∙ asked c s h;
-  quick_whole = λ c es es' s e q next here there.
-      (e.count, (e, subst (λ u. es' u ≡ e ∷ []) (sym next.0.placed) (here ∙ ap (λ l. l ++ e ∷ []) (next.1 s)), (λ t ne. there t (λ i. ne (i ∙ sym next.0.placed)) ∙ next.1 t), refl));
+  quick_whole = λ c es es' s e q next here there. (
+    e.count,
+    (
+      e,
+      subst (λ u. es' u ≡ e ∷ []) (sym next.0.placed) (here ∙ ap (λ l. l ++ e ∷ []) (next.1 s)),
+      (λ t ne. there t (λ i. ne (i ∙ sym next.0.placed)) ∙ next.1 t),
+      refl,
+    ),
+  );
   good_own = λ s c e x t g. tt;
   good_other = λ s c n e x ne g. tt;
   slot_other = λ n e x ne. refl;

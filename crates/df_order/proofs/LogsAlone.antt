@@ -24,7 +24,8 @@ module _ (M : Model) (logs : ℕ → List M.Entry) where
   has_entry n (suc t) s e lt h i = elim (cases_lt s t) [
     | inl l ↦ or_right (not (is_nil (own M n (logs t)))) (some_entry M logs n t) (has_entry n t s e l h i)
     | inr ge ↦ (let j : s ≡ t = omega arith in
-        or_left (not (is_nil (own M n (logs t)))) (some_entry M logs n t) (not_nil (own M n (logs t)) e (own_has M n (logs t) e (subst (λ u. Has (logs u) e) j h) i)))
+        or_left (not (is_nil (own M n (logs t)))) (some_entry M logs n t)
+        (not_nil (own M n (logs t)) e (own_has M n (logs t) e (subst (λ u. Has (logs u) e) j h) i)))
   ]
 
   none_own : (n t : ℕ) → some_entry M logs n t ≡ false → (s : ℕ) → s < t → own M n (logs s) ≡ []
@@ -97,7 +98,8 @@ module _ (M : Model) where
 
 -- ---- the history that logs tell
 
-module _ (M : Model) (laws : Laws M) (calls : ℕ → M.Call) (count : ℕ) (start : ℕ → M.State) (logs : ℕ → List M.Entry) (replies : ℕ → M.Reply) (recorded : Recorded M calls count start logs replies) where
+module _ (M : Model) (laws : Laws M) (calls : ℕ → M.Call) (count : ℕ) (start : ℕ → M.State) (logs : ℕ → List M.Entry)
+    (replies : ℕ → M.Reply) (recorded : Recorded M calls count start logs replies) where
   -- what is staged is at any time its call's to write, so an entry that was told what it gives fits
   fit_from : (s : ℕ) (x : M.State) (log : List M.Entry) → ((n : ℕ) → M.Good s (calls n) n x) → TellAll M calls s x log →
       FitAll M calls s x log
@@ -117,7 +119,8 @@ module _ (M : Model) (laws : Laws M) (calls : ℕ → M.Call) (count : ℕ) (sta
   -- the entries of a number fit in the state at the number
   fit_own : (s n : ℕ) → n ≤ count → FitAll M calls s (state_at M start logs n s) (own M n (logs s))
   fit_own s n le =
-      let all = (sorted M laws calls s (suc count) (start s) (logs s) (recorded.in_order s) (λ e h. omega (arith, (recorded.drawn s e h).1)) (fit_all s)).fits in
+      let all = (sorted M laws calls s (suc count) (start s) (logs s) (recorded.in_order s)
+      (λ e h. omega (arith, (recorded.drawn s e h).1)) (fit_all s)).fits in
       fit_back M calls s (start s) (upto M n (logs s)) (own M n (logs s))
       (fit_upto M calls s (start s) (logs s) (suc n) (suc count) (omega arith) all)
 
@@ -141,7 +144,8 @@ module _ (M : Model) (laws : Laws M) (calls : ℕ → M.Call) (count : ℕ) (sta
   reaches_from (suc m) n le =
       let next : suc n + m ≡ n + suc m = omega arith in
       go (executed M calls logs n) refl
-      (subst (λ j. LegalTo M (keyspace_at M start logs (suc n)) (items M calls logs replies (suc n) m) (keyspace_at M start logs j)) next (reaches_from m (suc n) (omega arith)))
+      (subst (λ j. LegalTo M (keyspace_at M start logs (suc n)) (items M calls logs replies (suc n) m)
+      (keyspace_at M start logs j)) next (reaches_from m (suc n) (omega arith)))
     where
       go : (b : Bool) → executed M calls logs n ≡ b →
           LegalTo M (keyspace_at M start logs (suc n)) (items M calls logs replies (suc n) m) (keyspace_at M start logs (n + suc m)) →
@@ -156,7 +160,8 @@ module _ (M : Model) (laws : Laws M) (calls : ℕ → M.Call) (count : ℕ) (sta
             (state_next n) r,
       )
       go false e r =
-          let nil : (s : ℕ) → own M n (logs s) ≡ [] = none_all M logs recorded.within n (or_parts (names_none M (calls n) M.shards) (some_entry M logs n M.shards) e).1 in
+          let nil : (s : ℕ) → own M n (logs s) ≡ [] = none_all M logs recorded.within n
+          (or_parts (names_none M (calls n) M.shards) (some_entry M logs n M.shards) e).1 in
           subst (λ f. LegalTo M (M.joined f) (items M calls logs replies (suc n) m) (keyspace_at M start logs (n + suc m)))
           (state_next n ∙ (λ i s. replay M (state_at M start logs n s) (nil s i))) r
 
@@ -165,7 +170,8 @@ module _ (M : Model) (laws : Laws M) (calls : ℕ → M.Call) (count : ℕ) (sta
       LegalTo M (M.joined start) (items M calls logs replies 1 n) (keyspace_at M start logs (suc n))
   reaches n le =
       subst (λ f. LegalTo M (M.joined f) (items M calls logs replies 1 n) (keyspace_at M start logs (suc n))) state_first
-      (subst (λ j. LegalTo M (keyspace_at M start logs 1) (items M calls logs replies 1 n) (keyspace_at M start logs j)) (let e : 1 + n ≡ suc n = omega arith in e) (reaches_from n 1 (omega arith)))
+      (subst (λ j. LegalTo M (keyspace_at M start logs 1) (items M calls logs replies 1 n) (keyspace_at M start logs j))
+      (let e : 1 + n ≡ suc n = omega arith in e) (reaches_from n 1 (omega arith)))
 
   pub number_stands : (n : ℕ) → n < count → NumberStands M calls start logs replies n
   number_stands n lt = record { reached = reaches n (omega arith); fitting = λ s. fit_own s (suc n) (omega arith) }

@@ -253,7 +253,8 @@ module _ (M : Model) (laws : Laws M) (calls : ℕ → M.Call) (s : ℕ) (start :
       Fits M s (calls n) e x.state → Kept M calls s start (enter M e x)
   kept_at_once x n k e kept fp free above i fits = kept_enter M calls s start x e kept
       (subst (λ m. Fits M s (calls m) e x.state) (sym i) fits)
-      (λ p h lt. subst (λ m. clash M calls s p.number m ≡ false) (sym i) (clash_sym M laws calls s p.number n ∙ free_clash M calls s start x n k p kept fp free h))
+      (λ p h lt. subst (λ m. clash M calls s p.number m ≡ false) (sym i)
+      (clash_sym M laws calls s p.number n ∙ free_clash M calls s start x n k p kept fp free h))
       (λ f h. record {
         rises = λ j. absurd (omega (arith, ran_most M calls s start x kept f h, i));
         lower = λ lt. absurd (omega (arith, ran_most M calls s start x kept f h, i));

@@ -146,7 +146,8 @@ module _ (M : Model) (laws : Laws M) (start : ℕ → M.State) (w : World M) (so
     asked = sound.asked s n (λ e. subst IsTaken e can.taken);
     quick = λ e. absurd (subst IsTaken (sym e) tt);
     act = λ t e h i. absurd
-        (subst IsActive (ap (w.phase can.other.0) i ∙ can.other.2) (sound.active t e h can.other.0 (subst (λ m. M.footprint (w.call m) can.other.0 ≢ None) (sym i) can.other.1)));
+        (subst IsActive (ap (w.phase can.other.0) i ∙ can.other.2)
+        (sound.active t e h can.other.0 (subst (λ m. M.footprint (w.call m) can.other.0 ≢ None) (sym i) can.other.1)));
     own_old = λ m ne. refl;
     good = sound.good s;
     clean = sound.clean s;
@@ -185,7 +186,10 @@ module _ (M : Model) (laws : Laws M) (start : ℕ → M.State) (w : World M) (so
       m < w.counter → M.Good s (w.call m) m (M.effect e (w.shard s).state)
   entered_good s n e i told m lt = elim (eqb_tells m n) [
     | inl y ↦ (let q : M.number e ≡ m = i ∙ sym y.1 in
-        subst (λ k. M.Good s (w.call m) k (M.effect e (w.shard s).state)) q (laws.good_own s (w.call m) e (w.shard s).state (subst (λ k. M.Tells s (w.call k) e (w.shard s).state) (sym y.1) told) (subst (λ k. M.Good s (w.call m) k (w.shard s).state) (sym q) (sound.good s m lt))))
+        subst (λ k. M.Good s (w.call m) k (M.effect e (w.shard s).state)) q
+        (laws.good_own s (w.call m) e (w.shard s).state
+        (subst (λ k. M.Tells s (w.call k) e (w.shard s).state) (sym y.1) told)
+        (subst (λ k. M.Good s (w.call m) k (w.shard s).state) (sym q) (sound.good s m lt))))
     | inr y ↦ laws.good_other s (w.call m) m e (w.shard s).state (λ q. y.1 (sym q ∙ i)) (sound.good s m lt)
   ]
 
@@ -202,8 +206,13 @@ module _ (M : Model) (laws : Laws M) (start : ℕ → M.State) (w : World M) (so
       let a = and_parts memory (ltb x.ran n && is_free M k x.holders) r in
       let b = and_parts (ltb x.ran n) (is_free M k x.holders) a.1 in
       let above : x.ran < n = ltb-true x.ran n b.0 in
-      let fits : Fits M s (w.call n) e x.state = (can.told (ap (λ f. runs_at_once M n memory f x) fp ∙ r), subst (λ m. M.Good s (w.call n) m x.state) (sym can.number) (sound.good s n can.offer.drawn.1)) in
-      let nil : (t : ℕ) → own M n (w.shard t).log ≡ [] = λ t. nil_none (own M n (w.shard t).log) (λ f h. let o = has_own M n (w.shard t).log f h in fresh_entry M start w sound s n can.offer.fresh can.offer.named t f o.0 o.1) in
+      let fits : Fits M s (w.call n) e x.state = (
+        can.told (ap (λ f. runs_at_once M n memory f x) fp ∙ r),
+        subst (λ m. M.Good s (w.call n) m x.state) (sym can.number) (sound.good s n can.offer.drawn.1),
+      ) in
+      let nil : (t : ℕ) → own M n (w.shard t).log ≡ [] = λ t. nil_none (own M n (w.shard t).log) (λ f h.
+      let o = has_own M n (w.shard t).log f h in
+      fresh_entry M start w sound s n can.offer.fresh can.offer.named t f o.0 o.1) in
       moved_sound M start w s n Done (enter M e x) sound record {
         kept = kept_at_once M laws w.call s (start s) x n k e (sound.shards s) fp b.1 above can.number fits;
         live = can.offer.drawn;
@@ -212,8 +221,12 @@ module _ (M : Model) (laws : Laws M) (start : ℕ → M.State) (w : World M) (so
         queue_old = λ m ne h. h;
         log_in = λ f h. elim (has_last x.log e f h) [
           | inl o ↦ inl o
-          | inr i ↦ inr record
-              { number = sym (ap M.number i) ∙ can.number; named = can.offer.named; here = tt; elsewhere = λ u l ne. absurd (ne (laws.quick_one (w.call n) s u can.quick can.offer.named l)) }
+          | inr i ↦ inr record {
+            number = sym (ap M.number i) ∙ can.number;
+            named = can.offer.named;
+            here = tt;
+            elsewhere = λ u l ne. absurd (ne (laws.quick_one (w.call n) s u can.quick can.offer.named l));
+          }
         ];
         asked = can.offer.named;
         quick = λ d. absurd (subst IsTaken (sym d) tt);
@@ -230,16 +243,23 @@ module _ (M : Model) (laws : Laws M) (start : ℕ → M.State) (w : World M) (so
   -- a waiting call runs a hop
   hop_kept : (s n : ℕ) (e : M.Entry) → CanHop M w s n e → Kept M w.call s (start s) (enter M e (w.shard s))
   hop_kept s n e can =
-      kept_hop M laws w.call s (start s) (w.shard s) n e (sound.shards s) can.turn can.number
-      (can.told, subst (λ m. M.Good s (w.call n) m (w.shard s).state) (sym can.number) (sound.good s n (queued_drawn M start w sound s n (can.turn.0, can.turn.1, can.turn.2)).1))
+      kept_hop M laws w.call s (start s) (w.shard s) n e (sound.shards s) can.turn can.number (
+        can.told,
+        subst (λ m. M.Good s (w.call n) m (w.shard s).state) (sym can.number)
+            (sound.good s n (queued_drawn M start w sound s n (can.turn.0, can.turn.1, can.turn.2)).1),
+      )
       (λ f h. laws.next_rises (w.call n) (entries M (logs M w) n) s e f can.next h)
 
   hop_log : (s n : ℕ) (e : M.Entry) (p : Phase) → CanHop M w s n e → IsActive p → (f : M.Entry) →
       Has ((w.shard s).log ++ e ∷ []) f → Has (w.shard s).log f ⊎ Enters M w s n p f
   hop_log s n e p can act f h = elim (has_last (w.shard s).log e f h) [
     | inl o ↦ inl o
-    | inr i ↦ inr record
-        { number = sym (ap M.number i) ∙ can.number; named = laws.next_named (w.call n) (entries M (logs M w) n) s e can.next; here = act; elsewhere = λ u l ne. taken_active (w.phase u n) (can.taken u l) }
+    | inr i ↦ inr record {
+      number = sym (ap M.number i) ∙ can.number;
+      named = laws.next_named (w.call n) (entries M (logs M w) n) s e can.next;
+      here = act;
+      elsewhere = λ u l ne. taken_active (w.phase u n) (can.taken u l);
+    }
   ]
 
   -- it goes on waiting

@@ -69,14 +69,17 @@ module _ (M : Model) (start : ℕ → M.State) (w : World M) (s n : ℕ) (p : Ph
         (λ e. subst (λ u. Kept M w.call u (start u) x) (sym e) change.kept) (λ e. sound.shards t);
     queued = λ t m. phase_case (λ f. IsTaken f → Queued ((moved M s n p x w).shard t).queue m) t m
         (λ e i h. shard_case (λ y. Queued y.queue m) t (λ _. subst (λ k. Queued x.queue k) (sym i) (change.queue_new h)) (λ ne. absurd (ne e)))
-        (λ not h. shard_case (λ y. Queued y.queue m) t (λ e. change.queue_old m (λ i. not e i) (subst (λ u. Queued (w.shard u).queue m) e (sound.queued t m h))) (λ ne. sound.queued t m h));
+        (λ not h. shard_case (λ y. Queued y.queue m) t
+        (λ e. change.queue_old m (λ i. not e i) (subst (λ u. Queued (w.shard u).queue m) e (sound.queued t m h))) (λ ne. sound.queued t m h));
     taken = λ t q. shard_case (λ y. Has y.queue q → IsTaken ((moved M s n p x w).phase t q.number)) t
-        (λ e h. phase_case IsTaken t q.number (λ _ i. (change.queue_in q h).0 i) (λ not. subst (λ u. IsTaken (w.phase u q.number)) (sym e) (sound.taken s q ((change.queue_in q h).1 (λ i. not e i)))))
+        (λ e h. phase_case IsTaken t q.number (λ _ i. (change.queue_in q h).0 i)
+        (λ not. subst (λ u. IsTaken (w.phase u q.number)) (sym e) (sound.taken s q ((change.queue_in q h).1 (λ i. not e i)))))
         (λ ne h. phase_case IsTaken t q.number (λ e i. absurd (ne e)) (λ _. sound.taken t q h));
     active = λ t e h u k. elim (new_entry t e h) [
       | inl old ↦ phase_case IsActive u (M.number e) (λ _ i. change.act t e old i) (λ _. sound.active t e old u k)
       | inr v ↦ phase_case IsActive u (M.number e) (λ _ _. v.1.here)
-          (λ not. subst (λ m. IsActive (w.phase u m)) (sym v.1.number) (v.1.elsewhere u (subst (λ m. M.footprint (w.call m) u ≢ None) v.1.number k) (λ j. not j v.1.number)))
+          (λ not. subst (λ m. IsActive (w.phase u m)) (sym v.1.number)
+          (v.1.elsewhere u (subst (λ m. M.footprint (w.call m) u ≢ None) v.1.number k) (λ j. not j v.1.number)))
     ];
     named = λ t e h. elim (new_entry t e h) [
       | inl old ↦ sound.named t e old

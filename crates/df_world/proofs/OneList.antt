@@ -14,13 +14,23 @@ use Rattle.df_world.specs.TheList.{Finds, the_list}
 use Rattle.df_world.specs.Sound.{Sound}
 use Rattle.df_world.proofs.SoundFacts.{entry_drawn, waits_or_done}
 
-head_of : {X : Type 0} (xs : List X) → not (is_nil xs) ≡ true → (x : X) × Has xs x
+-- a list that isn't empty has a first
+pub head_of : {X : Type 0} (xs : List X) → not (is_nil xs) ≡ true → (x : X) × Has xs x
 head_of [] e = absurd (false≢true e)
 head_of (x ∷ xs) e = (x, inl refl)
 
 none_is : {X : Type 0} (o : Option X) → is_none o ≡ true → o ≡ None
 none_is None e = refl
 none_is (Some x) e = absurd (false≢true e)
+
+-- an entry of the number, where one of the first shards has some
+pub has_some : (M : Model) (logs : ℕ → List M.Entry) (n t : ℕ) → some_entry M logs n t ≡ true →
+    (s : ℕ) × (e : M.Entry) × Has (own M n (logs s)) e
+has_some M logs n zero h = absurd (false≢true h)
+has_some M logs n (suc t) h = elim (or_cases (not (is_nil (own M n (logs t)))) (some_entry M logs n t) h) [
+  | inl a ↦ (let v = head_of (own M n (logs t)) a in (t, v.0, v.1))
+  | inr b ↦ has_some M logs n t b
+]
 
 -- a call that names none of the first shards asks for nothing there
 pub names_none_at : (M : Model) (c : M.Call) (t : ℕ) → names_none M c t ≡ true → (s : ℕ) → s < t →
@@ -33,7 +43,8 @@ names_none_at M c (suc t) e s lt =
       | inr ge ↦ (let i : t ≡ s = omega arith in subst (λ j. M.footprint c j ≡ None) i (none_is (M.footprint c t) a.0))
     ]
 
-module _ (M : Model) (laws : Laws M) (start : ℕ → M.State) (unstaged : (s : ℕ) → Unstaged M s (start s)) (w : World M) (sound : Sound M start w) (finished : ℕ → Bool) (replies : ℕ → M.Reply) (finds : Finds M w finished replies) where
+module _ (M : Model) (laws : Laws M) (start : ℕ → M.State) (unstaged : (s : ℕ) → Unstaged M s (start s)) (w : World M)
+    (sound : Sound M start w) (finished : ℕ → Bool) (replies : ℕ → M.Reply) (finds : Finds M w finished replies) where
   -- an entered number that isn't finished is queued
   waits : (s : ℕ) (e : M.Entry) → Has (w.shard s).log e → finished (M.number e) ≡ false →
       Queued (w.shard s).queue (M.number e)
@@ -52,15 +63,9 @@ module _ (M : Model) (laws : Laws M) (start : ℕ → M.State) (unstaged : (s : 
   unfolding done_logs
   has_done s e h = has_only (λ f. finished (M.number f)) (w.shard s).log e h
 
-  -- who has an entry there is finished
-  has_some : (n t : ℕ) → some_entry M done_logs n t ≡ true → (s : ℕ) × (e : M.Entry) × Has (own M n (done_logs s)) e
-  has_some n zero h = absurd (false≢true h)
-  has_some n (suc t) h = elim (or_cases (not (is_nil (own M n (done_logs t)))) (some_entry M done_logs n t) h)
-      [ inl a ↦ (let v = head_of (own M n (done_logs t)) a in (t, v.0, v.1)) | inr b ↦ has_some n t b ]
-
   some_done : (n : ℕ) → some_entry M done_logs n M.shards ≡ true → finished n ≡ true
   some_done n h =
-      let v = has_some n M.shards h in
+      let v = has_some M done_logs n M.shards h in
       let o = has_own M n (done_logs v.0) v.1 v.2 in
       ap finished (sym o.1) ∙ (has_done v.0 v.1 o.0).1
 
@@ -84,13 +89,17 @@ module _ (M : Model) (laws : Laws M) (start : ℕ → M.State) (unstaged : (s : 
           executed M w.call done_logs n ≡ true
       yes f true i = ap (λ b. names_none M (w.call n) M.shards || b) i ∙ or_right (names_none M (w.call n) M.shards) true refl
       yes f false i =
-          let a = laws.whole_some (w.call n) (entries M done_logs n) (subst (Whole M (w.call n)) (sym (done_entries n f)) (replies n, finds.yes n f)) (none_all M done_logs within n i) in
+          let a = laws.whole_some (w.call n) (entries M done_logs n)
+          (subst (Whole M (w.call n)) (sym (done_entries n f)) (replies n, finds.yes n f)) (none_all M done_logs within n i) in
           ap (λ b. b || some_entry M done_logs n M.shards) a
 
       nil : names_none M (w.call n) M.shards ≡ true → (s : ℕ) → own M n (w.shard s).log ≡ []
       nil a s = nil_none (own M n (w.shard s).log) (λ e h.
           let o = has_own M n (w.shard s).log e h in
-          let no : M.footprint (w.call n) s ≡ None = elim (cases_lt s M.shards) [ inl lt ↦ names_none_at M (w.call n) M.shards a s lt | inr ge ↦ laws.within (w.call n) s ge ] in
+          let no : M.footprint (w.call n) s ≡ None = elim (cases_lt s M.shards) [
+            | inl lt ↦ names_none_at M (w.call n) M.shards a s lt
+            | inr ge ↦ laws.within (w.call n) s ge
+          ] in
           sound.named s e o.0 (ap (λ m. M.footprint (w.call m) s) o.1 ∙ no))
 
       no : finished n ≡ false → (b : Bool) → executed M w.call done_logs n ≡ b → b ≡ false
@@ -108,7 +117,8 @@ module _ (M : Model) (laws : Laws M) (start : ℕ → M.State) (unstaged : (s : 
   done_recorded = record {
     in_order = λ s. chain_only (Before M w.call s) (λ e. finished (M.number e)) (w.shard s).log (sound.shards s).in_order;
     telling = λ s. fit_tells M w.call s (start s) (done_logs s) (kept_only M laws w.call s finished (start s) (w.shard s).log
-        (chain_map (Before M w.call s) (Leaves M laws w.call s finished) (w.shard s).log (λ e f he hf b. record { by = λ i ne. left s e f he hf b i ne }) (sound.shards s).in_order) (sound.shards s).fitting);
+        (chain_map (Before M w.call s) (Leaves M laws w.call s finished) (w.shard s).log
+        (λ e f he hf b. record { by = λ i ne. left s e f he hf b i ne }) (sound.shards s).in_order) (sound.shards s).fitting);
     clean = λ s. (unstaged s).good;
     drawn = λ s e h. let v = entry_drawn M start w sound s e (has_done s e h).0 in (v.0, omega (arith, v.1));
     within = within;

@@ -45,7 +45,8 @@ module _ (M : Model) where
       | inl h ↦ inl (h.0, h.1, g.longer h.0 h.1 h.2, h.3)
       | inr v ↦ inr (never m v)
     ];
-    told = λ m n a b c d h. subst (λ f. m ≤ f n) (sym g.floor) (seen.told m n a b (subst (λ c. n < c) g.counter c) (ap (λ f. f m) (sym g.caller) ∙ d ∙ ap (λ f. f n) g.caller)
+    told = λ m n a b c d h. subst (λ f. m ≤ f n) (sym g.floor)
+        (seen.told m n a b (subst (λ c. n < c) g.counter c) (ap (λ f. f m) (sym g.caller) ∙ d ∙ ap (λ f. f n) g.caller)
         (old m h (seen.earlier m n a b (subst (λ c. n < c) g.counter c) (ap (λ f. f m) (sym g.caller) ∙ d ∙ ap (λ f. f n) g.caller))));
   }
     where
@@ -58,7 +59,11 @@ module _ (M : Model) where
       old m h (inr v) = elim (g.newer h.0 h.1 h.2) [
         | inl k ↦ (h.0, h.1, k, h.3)
         | inr x ↦ absurd
-            (elim v [ inl u ↦ x.0 u.0 (subst (λ n. M.footprint (w.call n) u.0 ≢ None) (sym h.3) u.1) (ap (w.phase u.0) h.3 ∙ u.2) | inr u ↦ x.1 (ap (λ n. M.footprint (w.call n) h.0) h.3 ∙ u h.0) ])
+            (elim v [
+              | inl u ↦ x.0 u.0 (subst (λ n. M.footprint (w.call n) u.0 ≢ None) (sym h.3) u.1)
+                  (ap (w.phase u.0) h.3 ∙ u.2)
+              | inr u ↦ x.1 (ap (λ n. M.footprint (w.call n) h.0) h.3 ∙ u h.0)
+            ])
       ]
 
   -- a move of one shard and one number that is not out
@@ -73,10 +78,14 @@ module _ (M : Model) where
     longer = λ t e. put_case (λ y. Has (logs M w t) e → Has y.log e) s t x w.shard
         (λ i h. longer e (subst (λ u. Has (logs M w u) e) i h)) (λ _ h. h);
     out = λ t m h. put_case (λ f. f m ≡ Out) s t (put n p (w.phase s)) w.phase
-        (λ i. put_case (λ q. q ≡ Out) n m p (w.phase s) (λ j. absurd (not_out (subst (λ k. w.phase s k ≡ Out) j (subst (λ u. w.phase u m ≡ Out) i h)))) (λ _. subst (λ u. w.phase u m ≡ Out) i h))
+        (λ i. put_case (λ q. q ≡ Out) n m p (w.phase s)
+        (λ j. absurd (not_out (subst (λ k. w.phase s k ≡ Out) j (subst (λ u. w.phase u m ≡ Out) i h)))) (λ _. subst (λ u. w.phase u m ≡ Out) i h))
         (λ _. h);
     newer = λ t e. put_case (λ y. Has y.log e → Has (logs M w t) e ⊎ New M w t e) s t x w.shard
-        (λ i h. elim (newer e h) [ inl k ↦ inl (subst (λ u. Has (logs M w u) e) (sym i) k) | inr v ↦ inr (v.0, subst (λ u. M.footprint (w.call (M.number e)) u ≢ None) (sym i) v.1) ])
+        (λ i h. elim (newer e h) [
+          | inl k ↦ inl (subst (λ u. Has (logs M w u) e) (sym i) k)
+          | inr v ↦ inr (v.0, subst (λ u. M.footprint (w.call (M.number e)) u ≢ None) (sym i) v.1)
+        ])
         (λ _ h. inl h);
   }
 
@@ -199,7 +208,8 @@ module _ (M : Model) (laws : Laws M) (start : ℕ → M.State) (w : World M) (so
     floors = λ n a b. elim (cases_lt n w.counter) [
       | inl lt ↦ subst (λ f. f < n) (sym (put_other w.counter n (floor_of M w k M.shards) w.floor (omega arith))) (seen.floors n a lt)
       | inr ge ↦
-          (let e : n ≡ w.counter = omega arith in subst (λ f. f < n) (sym (put_same w.counter n (floor_of M w k M.shards) w.floor e)) (omega (arith, floor_below k M.shards)))
+          (let e : n ≡ w.counter = omega arith in
+          subst (λ f. f < n) (sym (put_same w.counter n (floor_of M w k M.shards) w.floor e)) (omega (arith, floor_below k M.shards)))
     ];
     earlier = λ m n a b lt e. never m (omega arith) (elim (cases_lt n w.counter) [
       | inl l ↦ seen.earlier m n a b l (sym (caller_old m (omega arith)) ∙ e ∙ caller_old n l)
@@ -209,7 +219,12 @@ module _ (M : Model) (laws : Laws M) (start : ℕ → M.State) (w : World M) (so
       | inl l ↦ subst (λ f. m ≤ f) (sym (put_other w.counter n (floor_of M w k M.shards) w.floor (omega arith)))
           (seen.told m n a b l (sym (caller_old m (omega arith)) ∙ e ∙ caller_old n l) h)
       | inr ge ↦ subst (λ f. m ≤ f) (sym (put_same w.counter n (floor_of M w k M.shards) w.floor (omega arith)))
-          (omega (arith, h.3, floor_covers k M.shards h.0 h.1 (entry_within M start w sound laws h.0 h.1 h.2) h.2 (ap w.caller h.3 ∙ sym (caller_old m (omega arith)) ∙ e ∙ put_same w.counter n k w.caller (omega arith))))
+          (omega (
+            arith,
+            h.3,
+            floor_covers k M.shards h.0 h.1 (entry_within M start w sound laws h.0 h.1 h.2) h.2
+                (ap w.caller h.3 ∙ sym (caller_old m (omega arith)) ∙ e ∙ put_same w.counter n k w.caller (omega arith)),
+          ))
     ];
   }
     where
@@ -252,7 +267,8 @@ module _ (M : Model) (laws : Laws M) (start : ℕ → M.State) (w : World M) (so
       (λ f h. elim (has_last (logs M w s) e f (subst (λ y. Has y f) l h)) [
         | inl o ↦ inl o
         | inr j ↦
-            (let q : n ≡ M.number f = sym i ∙ ap M.number j in inr ((λ t. subst (λ m. M.footprint (w.call m) t ≢ None → w.phase t m ≢ Out) q (none t)), subst (λ m. M.footprint (w.call m) s ≢ None) q named))
+            (let q : n ≡ M.number f = sym i ∙ ap M.number j in
+            inr ((λ t. subst (λ m. M.footprint (w.call m) t ≢ None → w.phase t m ≢ Out) q (none t)), subst (λ m. M.footprint (w.call m) s ≢ None) q named))
       ])
 
   hopped_goes : (s n : ℕ) (e : M.Entry) → CanHop M w s n e → (p : Phase) → Goes M w (hopped M s n e p w)

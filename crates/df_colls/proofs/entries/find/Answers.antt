@@ -1,9 +1,9 @@
-use Rattle.std.proofs.Common.{◌≡◌, ◌<◌, length, sym, ap, subst, ◌∙◌, arith}
+use Rattle.std.proofs.Common.{length, sym, ap, subst, arith}
 use Rattle.std.specs.Prelude.{T}
 use Rattle.std.specs.FinMap.{is_sorted}
 use Rattle.std.proofs.lemmas.List.{length-map}
 use Rattle.df_colls.specs.Roomy.{order}
-use Rattle.df_colls.specs.Cuts.{flat, chunk_at}
+use Rattle.df_colls.specs.Cuts.{flat}
 use Rattle.df_colls.specs.Parts.{item_lists}
 use Rattle.df_colls.specs.Places.{IsAt, GoesTo, IsFound, IsMissing}
 use Rattle.df_colls.proofs.PartLaws.{list_at}

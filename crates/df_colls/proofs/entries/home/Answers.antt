@@ -1,6 +1,5 @@
-use Rattle.std.proofs.Common.{◌≡◌, ◌+◌, ◌-◌, ◌/◌, ◌<◌, ◌≤◌, true, false, length, sym, ap, subst, ◌∙◌, arith, vec_len}
+use Rattle.std.proofs.Common.{◌+◌, ◌-◌, ◌/◌, ◌<◌, length, subst, arith}
 use Rattle.std.proofs.lemmas.List.{length-map}
-use Rattle.df_colls.specs.Cuts.{chunk_at}
 use Rattle.df_colls.specs.Parts.{item_lists}
 use Rattle.df_colls.specs.Places.{Starts}
 use Rattle.df_colls.proofs.PartLaws.{list_at, filled_length}

@@ -1,4 +1,4 @@
-use Rattle.df_core.proofs.DueEnds.{gives_due}
+use Rattle.df_core.proofs.RestLaws.{gives_due}
 use Rattle.df_core.proofs.laws.complete_calls_rest.Goals as goal
 
 pub returns : goal.returns

@@ -1,14 +1,11 @@
-use Rattle.std.proofs.Common.{◌≡◌, ℕ, ◌+◌, ◌<◌, ◌≤◌, List, ◌++◌, ◌∷◌, [], length, get_or, set, refl, sym, ap, subst, ◌∙◌, arith, vec_len, vec_capacity}
+use Rattle.std.proofs.Common.{◌≡◌, ◌+◌, ◌<◌, ◌≤◌, length, set, refl, sym, ap, subst, ◌∙◌, arith, vec_len, vec_capacity}
 use Rattle.std.specs.List.{All, insert}
 use Rattle.std.proofs.lemmas.List.{get_or_default, length_push}
-use Rattle.std.specs.declared.vec.Vec.{Vec}
-use Rattle.std.proofs.lemmas.List.Edits.{length-insert}
 use Rattle.df_colls.specs.declared.chunks.TheConstants.{FULL}
-use Rattle.df_colls.specs.declared.chunks.Place.{Place}
-use Rattle.df_colls.specs.Cuts.{flat, index_of, IsGap}
-use Rattle.df_colls.specs.Parts.{item_lists, spare_of, IsSound, IsFree}
-use Rattle.df_colls.proofs.PartLaws.{few_items, gap_of, gap_within, within_parts, with_new, with_halves, new_count, last_free, fits_at, filled_at, sound-set, sound-split}
-use Rattle.df_colls.proofs.RoomLaws.{some_free, some_room, spare-set, spare-split}
+use Rattle.df_colls.specs.Cuts.{flat, index_of}
+use Rattle.df_colls.specs.Parts.{item_lists, spare_of, IsFree}
+use Rattle.df_colls.proofs.PartLaws.{few_items, gap_of, gap_within, within_parts, with_new, with_halves, new_count, last_free, fits_at, sound-set, sound-split}
+use Rattle.df_colls.proofs.RoomLaws.{some_free, spare-set, spare-split}
 use Rattle.df_colls.proofs.chunks.Chunks.insert.Goals as goal
 
 pub overflow_add-self : goal.overflow_add-self

@@ -1,10 +1,9 @@
-use Rattle.std.proofs.Common.{◌≡◌, ℕ, ◌+◌, ◌-◌, ◌<◌, ◌≤◌, List, ◌++◌, ◌∷◌, [], inl, inr, length, get_or, set, refl, sym, ap, subst, ◌∙◌, arith, vec_len, vec_capacity}
+use Rattle.std.proofs.Common.{◌≡◌, ◌≤◌, get_or, set, refl, sym, ap, subst, ◌∙◌, arith, vec_len}
 use Rattle.std.specs.List.{remove}
 use Rattle.std.proofs.lemmas.List.{get_or-set_same}
-use Rattle.std.proofs.lemmas.List.Edits.{length-remove}
 use Rattle.df_colls.specs.Cuts.{flat, index_of, IsPlace}
 use Rattle.df_colls.specs.Parts.{item_lists, spare_of, HasMore}
-use Rattle.df_colls.proofs.PartLaws.{some_item, within_parts, got, with_less, with_none, less_count, remove-set, none_of, fits_at, filled_at, more_len, sound-set, sound-without}
+use Rattle.df_colls.proofs.PartLaws.{some_item, within_parts, got, with_less, with_none, less_count, remove-set, none_of, fits_at, more_len, sound-set, sound-without}
 use Rattle.df_colls.proofs.RoomLaws.{spare-less, spare-without}
 use Rattle.df_colls.proofs.chunks.Chunks.remove.Goals as goal
 

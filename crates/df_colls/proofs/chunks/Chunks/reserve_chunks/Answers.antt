@@ -1,4 +1,4 @@
-use Rattle.std.proofs.Common.{◌≡◌, ◌<◌, ◌≤◌, length, Result, Ok, Err, ap, subst, arith, vec_len}
+use Rattle.std.proofs.Common.{◌<◌, ◌≤◌, length, Result, Ok, Err, ap, subst, arith, vec_len}
 use Rattle.std.specs.Prelude.{OnOk}
 use Rattle.std.specs.List.{All}
 use Rattle.df_colls.specs.declared.chunks.TheConstants.{FULL}

@@ -1,4 +1,4 @@
-use Rattle.std.proofs.Common.{◌≡◌, ◌+◌, ◌-◌, drop, sym, ap, ◌∙◌, arith}
+use Rattle.std.proofs.Common.{◌+◌, ◌-◌, drop, sym, ap, ◌∙◌, arith}
 use Rattle.df_colls.specs.Cuts.{flat}
 use Rattle.df_colls.specs.Parts.{item_lists}
 use Rattle.df_colls.proofs.PartLaws.{run_on}

@@ -1,5 +1,5 @@
-use Rattle.std.proofs.Common.{◌≡◌, ℕ, zero, suc, ◌<◌, List, [], ◌∷◌, ◌++◌, drop, length, refl, sym, ap, subst, ◌∙◌, arith}
-use Rattle.std.specs.Prelude.{Option, Some, None, slice_get}
+use Rattle.std.proofs.Common.{◌≡◌, ℕ, zero, suc, ◌<◌, List, [], ◌∷◌, ◌++◌, drop, length, refl, ◌∙◌, arith}
+use Rattle.std.specs.Prelude.{Some, None, slice_get}
 use Rattle.std.specs.FinMap as map
 use Rattle.df_colls.specs.Runs.{IsFront}
 use Rattle.df_colls.proofs.entries.Entries.at.Goals as goal
