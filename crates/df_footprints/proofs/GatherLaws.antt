@@ -1,5 +1,5 @@
 -- Keys that are gathered one after the other are gathered.
-use Rattle.std.proofs.Common.{◌≡◌, ℕ, suc, Bool, true, false, cond, List, [], ◌∷◌, ◌++◌, map, take, length, ◌<◌, get_or, refl, sym, ap, subst, ◌∙◌, Ordering, append-nil, arith}
+use Rattle.std.proofs.Common.{◌≡◌, ℕ, suc, Bool, true, false, cond, List, [], ◌∷◌, ◌++◌, take, length, ◌<◌, get_or, refl, sym, ap, subst, ◌∙◌, Ordering, append-nil, arith}
 use Rattle.std.proofs.lemmas.List.{take_more}
 use Rattle.std.proofs.lemmas.Bool.{eqb-true}
 use Rattle.std.specs.Prelude.{Result, Ok, Err, OnOk, Option, Some, None, ◌==◌, ◌+◌}

@@ -1,5 +1,5 @@
 -- What the private calls that go over a command's keys answer.
-use Rattle.std.specs.Prelude.{◌≡◌, ℕ, List, [], ◌∷◌, ◌++◌}
+use Rattle.std.specs.Prelude.{◌≡◌, List, [], ◌∷◌, ◌++◌}
 use Rattle.std.specs.FinMap as fin
 use Rattle.df_model.specs.Values.{Bytes}
 use Rattle.df_model.specs.Outcomes.{KeyRow}

@@ -15,7 +15,12 @@ use std::collections::BTreeMap;
 /// keys where a command asks for all. The keys are copies. Costs time in proportion to the bytes of all keys that the
 /// call names, and a search in the keys of the shard for each of these. A command of one key takes memory
 /// for one list of one key.
-pub fn footprint(alloc: Global, call: &Call, shard: u32, shards: u32) -> Result<Option<Keys>, NoMemory>
+pub fn footprint(
+    alloc: Global,
+    call: &Call,
+    shard: u32,
+    shards: u32,
+) -> Result<Option<Keys>, NoMemory>
     requires { 0 < shards }
     ensures { IfOk result (λ keys. keys ≡ footprint_of shards call.now shard) }
 {

@@ -1,5 +1,6 @@
 //! One entry.
 
+ghost use Rattle.std.specs.Prelude.{◌≡◌};
 ghost use Rattle.std.specs.Borrow.{ftrue};
 ghost use Rattle.std.specs.Coded.{codes};
 ghost use Rattle.df_model.specs.contracts.reply.Reply as reply;
@@ -11,6 +12,7 @@ use std::marker::Model;
 
 /// What one callback did on a shard for a call, as it stands in the shard's log. The act and its answer are for
 /// contracts alone and cost nothing.
+#[derive(Drop)]
 pub struct Entry {
     /// The call's number.
     pub number: u64,
@@ -22,4 +24,14 @@ pub struct Entry {
 
 impl Model for Entry {
     ghost also_owns = { λ _. ftrue };
+}
+
+impl Entry {
+    /// An entry of this hop of the call with this number.
+    pub fn new(number: u64, hop: u64) -> Entry
+        ghost did: { Act × Told }
+        ensures { (result.number ≡ number) × (result.hop ≡ hop) × (result.act ≡ did.0) × (result.told ≡ did.1) }
+    {
+        Entry { number, hop }
+    }
 }

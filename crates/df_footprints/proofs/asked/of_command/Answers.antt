@@ -1,5 +1,4 @@
 use Rattle.std.proofs.Common.{◌≡◌, [], ◌∷◌, IfOk, inl, inr, sym, ap, subst, ◌∙◌}
-use Rattle.df_model.specs.declared.command.Command.TheVariants.{Many}
 use Rattle.df_footprints.specs.Footprints.{footprint_of_commands, keys_of, on_shard}
 use Rattle.df_footprints.specs.Naming.{Adds, keys_named}
 use Rattle.df_footprints.proofs.GatherLaws.{gathered_one, no_keys}

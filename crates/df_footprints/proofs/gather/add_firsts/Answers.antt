@@ -1,4 +1,4 @@
-use Rattle.std.proofs.Common.{◌≡◌, [], ◌∷◌, subst}
+use Rattle.std.proofs.Common.{[], ◌∷◌, subst}
 use Rattle.df_model.specs.declared.keys.Mode.TheVariants.{Exclusive}
 use Rattle.df_footprints.specs.Footprints.{on_shard}
 use Rattle.df_footprints.specs.Naming.{Adds}

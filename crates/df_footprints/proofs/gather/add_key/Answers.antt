@@ -1,4 +1,4 @@
-use Rattle.std.proofs.Common.{◌≡◌, [], ◌∷◌, refl, sym, ap, subst, ◌∙◌}
+use Rattle.std.proofs.Common.{[], ◌∷◌, refl, sym, ap, subst, ◌∙◌}
 use Rattle.df_footprints.specs.Footprints.{on_shard}
 use Rattle.df_footprints.specs.Naming.{Adds}
 use Rattle.std.specs.BTreeMap.{insert_entry}

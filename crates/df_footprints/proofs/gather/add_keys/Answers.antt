@@ -1,4 +1,4 @@
-use Rattle.std.proofs.Common.{◌≡◌, [], ◌∷◌, subst}
+use Rattle.std.proofs.Common.{[], ◌∷◌, subst}
 use Rattle.df_footprints.specs.Footprints.{on_shard}
 use Rattle.df_footprints.specs.Naming.{Adds}
 use Rattle.df_footprints.proofs.GatherLaws.{adds_key}

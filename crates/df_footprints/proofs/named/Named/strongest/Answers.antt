@@ -1,4 +1,4 @@
-use Rattle.std.proofs.Common.{◌≡◌, inl, inr, refl, sym, ap, ◌∙◌}
+use Rattle.std.proofs.Common.{inl, inr, sym, ap, ◌∙◌}
 use Rattle.df_footprints.specs.Footprints.{strongest}
 use Rattle.df_footprints.specs.Naming.{keys_named}
 use Rattle.df_footprints.proofs.GatherLaws.{strongest_read, strongest_written, strongest_firsts, strongest_stored}

@@ -1,0 +1,25 @@
+use Rattle.std.proofs.Common.{rules, ◌≡◌, sym, ap, ◌∙◌, subst}
+use Rattle.df_book.specs.Logs.{BothSeen, alone}
+use Rattle.df_book.specs.Passes.{Caller, Receipt}
+use Rattle.df_book.specs.Views.{merged, learned}
+use Rattle.df_book.specs.declared.view.View.{View}
+use Rattle.df_book.proofs.Merging.{merges}
+use Rattle.df_book.proofs.Ending.{learns}
+use Rattle.df_book.proofs.Showing.{both-seen}
+use Rattle.df_book.proofs.book.BookOf+Said+Ruling.take_receipt.Goals as goal
+
+pub join_seat-requires : goal.join_seat-requires
+join_seat-requires c = (search rules, search rules, search rules, search rules, merges _ _ _ _ _ (search rules))
+
+pub load-requires : goal.load-requires
+load-requires c = (search rules, search rules, learns _ _ _ _)
+
+pub returns-clause-seen : goal.returns-clause-seen
+returns-clause-seen c =
+    let v = c.pass.inside.seat.me.0 in let w = c.receipt.inside.seat.me.0 in
+    let m : c.join_seat.new.seat.me.0 ≡ merged v w = search rules in
+    let e : c.load.new.seat.me.0 ≡ learned (merged v w) = search rules in
+    let both : BothSeen v.seen w.seen c.join_seat.new.seat.me.0.seen = both-seen v w c.join_seat.new.seat.me.0 m c.load.ensures.2.1.0 c.load.ensures.2.1.1 in
+    let now : BothSeen v.seen w.seen c.load.new.seat.me.0.seen = subst (λ l. BothSeen v.seen w.seen l) (ap (λ (u : View). u.seen) m ∙ sym (ap (λ (u : View). u.seen) e)) both in
+    subst (λ (q : Caller × Receipt). BothSeen q.0.seen (alone q.1.shard q.1.log) c.load.new.seat.me.0.seen) (λ j. (c.pass.view_is j, c.receipt.view_is j))
+    (subst (λ l. BothSeen v.seen l c.load.new.seat.me.0.seen) c.receipt.invariant.7 now)

@@ -1,0 +1,12 @@
+pub mod Weights
+pub mod Logs
+pub mod Draws
+pub mod Views
+pub mod Passes
+pub mod Shown
+pub mod Closed
+pub mod Rule
+pub mod Steps
+pub mod Deals
+pub mod Taken
+pub mod Runs

@@ -1,0 +1,17 @@
+//! What goes to other threads: the book by reference, passes, tickets and receipts by value. A lost `Send` or `Sync`
+//! shows here at once, and not at the first thread above.
+use crate::book::Book;
+use crate::passes::{CallerPass, Receipt, ShardPass, Ticket};
+
+fn is_send<T: Send>(_: &T) {}
+
+fn is_sync<T: Sync>(_: &T) {}
+
+fn cross(book: &Book, caller: &CallerPass, shard: &ShardPass, ticket: &Ticket, receipt: &Receipt) {
+    is_sync(book);
+    is_send(book);
+    is_send(caller);
+    is_send(shard);
+    is_send(ticket);
+    is_send(receipt);
+}
