@@ -1,7 +1,7 @@
 -- What a shard needs to enter what was just drawn.
-use Rattle.std.proofs.Common.{◌≡◌, ◌≢◌, ℕ, ◌+◌, ◌<◌, ◌≤◌, Bool, true, false, cond, ne_eqb, List, [], ◌∷◌, ◌++◌, sym, refl, ap, ◌∙◌, subst, arith}
+use Rattle.std.proofs.Common.{◌≡◌, ◌≢◌, ℕ, ◌<◌, ◌≤◌, false, cond, ne_eqb, List, [], ◌∷◌, ◌++◌, refl, ap, ◌∙◌, arith}
 use Rattle.df_log.specs.declared.entry.Entry.{Entry}
-use Rattle.df_book.specs.Weights.{total, Each, hit, count}
+use Rattle.df_book.specs.Weights.{Each, hit}
 use Rattle.df_book.specs.Logs.{at_log, alone, IsPrefix, longer, BothSeen, uses, use_of, uses_of, HasRoom, is_passed, IsFresh}
 use Rattle.df_book.specs.Draws.{draws_of, last_number}
 use Rattle.df_book.specs.declared.draw.Draw.{Draw}

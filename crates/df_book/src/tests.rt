@@ -129,7 +129,7 @@ fn twice(book: &Book, caller: &mut CallerPass, shard: &mut ShardPass, call: &Cal
 }
 
 // Two threads, each with a caller and a shard of its own.
-fn side_by_side<R: Threads>(
+fn both<R: Threads>(
     rt: &R,
     book: &Book,
     one: &mut CallerPass,
@@ -153,32 +153,41 @@ fn side_by_side<R: Threads>(
     )
 }
 
-// A closed book, the last number, and the numbers of each thread.
-fn at_once<R: Threads>(
+// Two callers at once, each on a shard of its own.
+fn side_by_side<R: Threads>(
     rt: &R,
-    alloc: Global,
-) -> Result<(Closed, u64, ((u64, u64), (u64, u64))), NoMemory>
-    ensures drawn { IfOk result (λ r. (length r.0.draws ≡ r.1) × Settled r.0) }
-    ensures logs { IfOk result (λ r. (at_log r.0.logs 0 ≡ cleared r.2.0.0 ∷ cleared r.2.0.1 ∷ []) × (at_log r.0.logs 1 ≡ cleared r.2.1.0 ∷ cleared r.2.1.1 ∷ [])) }
+    book: &Book,
+    first: &mut CallerPass,
+    north: &mut ShardPass,
+    south: &mut ShardPass,
+    call: &Call,
+) -> ((u64, u64), (u64, u64))
+    requires first { first.old ≡ first_pass book.now 9 }
+    requires shards { (north.old ≡ new_shard book.now 0) × (south.old ≡ new_shard book.now 1) }
+    ensures joined { (first.new.book ≡ book.now) × AllJoined first.new }
+    ensures shards { (north.new.book ≡ book.now) × (north.new.shard ≡ 0) × (south.new.book ≡ book.now) × (south.new.shard ≡ 1) }
+    ensures north { north.new.log ≡ cleared result.0.0 ∷ cleared result.0.1 ∷ [] }
+    ensures south { south.new.log ≡ cleared result.1.0 ∷ cleared result.1.1 ∷ [] }
 {
-    let (book, mut first, mut north, mut south, mut shards) = opened(alloc)?;
-    let mut one = book.split(&mut first, 4);
-    let mut other = book.split(&mut first, 4);
+    let mut one = book.split(first, 4);
+    let mut other = book.split(first, 4);
+    let numbers = both(rt, book, &mut one, &mut other, north, south, call);
+    book.join(first, one);
+    book.join(first, other);
+    numbers
+}
+
+// The last number, and those of each thread.
+fn at_once<R: Threads>(rt: &R, alloc: Global) -> Result<(u64, (u64, u64), (u64, u64)), NoMemory> {
+    let (book, mut first, mut north, mut south, _shards) = opened(alloc)?;
     let call = flushall();
-    let numbers = side_by_side(
-        rt, &book, &mut one, &mut other, &mut north, &mut south, &call,
-    );
-    book.join(&mut first, one);
-    book.join(&mut first, other);
-    shards.push(north)?;
-    shards.push(south)?;
-    let last = book.last(&mut first);
-    Ok((book.close(first, shards), last, numbers))
+    let (one, other) = side_by_side(rt, &book, &mut first, &mut north, &mut south, &call);
+    Ok((book.last(&mut first), one, other))
 }
 
 #[test]
 fn two_threads_draw_different_numbers(rt: HostRuntime) -> Result<(), NoMemory> {
-    let (_closed, last, (one, other)) = at_once(&rt, rt.alloc())?;
+    let (last, one, other) = at_once(&rt, rt.alloc())?;
     let apart = one.0 != other.0 && one.0 != other.1 && one.1 != other.0 && one.1 != other.1;
     assert!(rt; apart && one.0 < one.1 && other.0 < other.1);
     assert_eq!(rt; last, 4);

@@ -23,11 +23,10 @@ fn keys_of(alloc: Global, all: Option<Mode>, named: [(&str, Mode); 2]) -> Result
     Ok(Keys::Some(modes))
 }
 
-/// What the call is granted, if it asks for something and holds nothing yet.
+/// What the call is granted, if it holds nothing yet.
 fn take(intents: &mut Intents, number: u64, keys: Keys) -> Result<Option<Grant>, NoMemory> {
-    let count = room_of(&keys);
-    intents.reserve(count)?;
-    if count == 0 || intents.holds(number) {
+    intents.reserve(room_of(&keys))?;
+    if intents.holds(number) {
         return Ok(None);
     }
     Ok(Some(intents.take(number, keys)))

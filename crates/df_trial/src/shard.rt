@@ -2,7 +2,7 @@
 
 use crate::store::{Replies, SHARDS, Store, run};
 use df_footprints::footprint;
-use df_intents::{Grant, Intents, count_of};
+use df_intents::{Grant, Intents, room_of};
 use df_model::{Call, NoMemory};
 use df_txqueue::{Place, TxQueue};
 use std::alloc::Global;
@@ -56,9 +56,9 @@ impl Shard {
         if number <= self.ran {
             return Ok(Answer::TooLate);
         }
-        self.intents.reserve(count_of(&keys))?;
+        self.intents.reserve(room_of(&keys))?;
         self.queue.reserve(1)?;
-        if count_of(&keys) == 0 || self.intents.holds(number) || self.queue.is_queued(number) {
+        if self.intents.holds(number) || self.queue.is_queued(number) {
             return Ok(Answer::Nothing);
         }
         let granted = self.intents.take(number, keys) == Grant::Free;

@@ -1,4 +1,3 @@
-use Rattle.std.proofs.Common.{◌≡◌}
 use Rattle.df_book.proofs.tests.entry_of.Goals as goal
 
 pub returns : goal.returns

@@ -1,9 +1,9 @@
-use Rattle.std.proofs.Common.{rules, ◌≡◌, ◌+◌, ◌<◌, [], ◌∷◌, ◌++◌, ℕ, List, sym, ap, ◌∙◌, subst, refl, arith}
+use Rattle.std.proofs.Common.{rules, ◌≡◌, ◌<◌, [], ◌∷◌, ◌++◌, ℕ, List, sym, ap, ◌∙◌, subst, refl, arith}
 use Rattle.df_log.specs.declared.entry.Entry.{Entry}
 use Rattle.df_book.specs.Weights.{Each}
 use Rattle.df_book.specs.Logs.{at_log, alone, IsPrefix, BothSeen, HasRoom, IsFresh}
 use Rattle.df_book.specs.Draws.{draws_of, last_number}
-use Rattle.df_book.specs.Passes.{Receipt, draw_by, receipt_of}
+use Rattle.df_book.specs.Passes.{Receipt, draw_by}
 use Rattle.df_book.specs.Runs.{cleared}
 use Rattle.df_book.specs.declared.draw.Draw.{Draw}
 use Rattle.df_book.proofs.Running.{last-snoc, drawn-last, below-fresh, below-room, sees-all}

@@ -1,12 +1,12 @@
 -- `new` makes the struct of its two numbers; the act and the answer are what its clause names.
-use Rattle.std.proofs.Common.{◌≡◌, List, [], ◌∷◌, refl}
+use Rattle.std.proofs.Common.{List, [], ◌∷◌, refl}
 use Rattle.std.proofs.raw_atomic.Walks.{proved}
 use seplogic.Ra.Ura.{Ura}
 use mir.Syntax.{w64}
 use mir.Val.{Val, vint, vstruct, vcons, vnil}
 use contract.Running.{tables}
 use types.Logic.{Logic}
-use types.Kit.{Goal, Seq, Step, step, Item, ‵, raw, ◌$◌, ◌∵◌, !, qed, done, move, drop, join, fjoin, fpack, feq_i, suffices}
+use types.Kit.{Goal, Step, step, Item, ‵, raw, ◌$◌, ◌∵◌, !, qed, done, move, drop, join, fjoin, fpack, feq_i, suffices}
 use types.Part.{agg}
 use types.Run.{enter, returns, and_then, no_more}
 use types.ByLocal.{alloc_all, pass_all, free_all, look_at, get, sets}
