@@ -1,6 +1,7 @@
 -- Sets of several keys, where no key holds another kind.
-use Rattle.std.proofs.Common.{◌≡◌, ◌-◌, ◌<◌, true, List, [], ◌∷◌, length, take, drop, get_or, map, refl, sym, ap, ◌∙◌, arith}
-use Rattle.std.specs.Prelude.{Option, Some, None, is_some}
+use Rattle.std.proofs.Common.{◌≡◌, ℕ, zero, suc, ◌-◌, ◌<◌, Bool, true, false, List, [], ◌∷◌, length, take, drop, get_or, map, refl, sym, ap, ◌∙◌, arith}
+use Rattle.std.specs.Prelude.{Option, Some, None, is_some, ◌==◌}
+use Rattle.std.proofs.lemmas.Bool.{false≢true}
 use Rattle.std.proofs.lemmas.List.{take_all}
 use Rattle.df_model.specs.Values.{Bytes, Value, Members}
 use Rattle.df_model.specs.Keyspace.{Keyspace, held}
@@ -9,6 +10,11 @@ use Rattle.df_sets.specs.Combined.{combined, folded}
 use Rattle.df_sets.specs.declared.combination.Combine.{Combine}
 use Rattle.df_sets.proofs.CombineLaws.{folded_is}
 use Rattle.df_server.specs.HeldSets.{set_in, set_at}
+
+-- a count that was found not to be 0
+pub some_left : (n : ℕ) (found : Bool) → found ≡ (n == 0) → found ≡ false → 0 < n
+some_left zero found e f = absurd (false≢true (sym f ∙ e))
+some_left (suc n) found e f = omega arith
 
 first_there : (v : Option Value) (more : Option (List Members)) → is_some (with_set (members_of v) more) ≡ true → members_of v ≡ Some (set_in v)
 first_there None more e = refl
