@@ -1,10 +1,13 @@
 pub mod OrderLaws
 pub mod SearchLaws
 pub mod PlaceLaws
+pub mod BodyLaws
 pub mod CutLaws
 pub mod HomeLaws
 pub mod RoomLaws
 pub mod PartLaws
+pub mod SumLaws
+pub mod SpotLaws
 pub mod MergeLaws
 pub mod SetLaws
 pub mod CountLaws

@@ -1,5 +1,6 @@
 -- Two lists in order, merged: each entry of the second is put among those of the first.
-use Rattle.std.proofs.Common.{◌≡◌, ℕ, zero, suc, ◌+◌, ◌<◌, ◌≤◌, List, [], ◌∷◌, ◌++◌, length, get_or, drop, map, refl, sym, ap, subst, ◌∙◌, append_assoc, append-nil, add-one, drop-cons}
+use Rattle.std.proofs.Common.{◌≡◌, ℕ, zero, suc, ◌+◌, ◌<◌, ◌≤◌, List, [], ◌∷◌, ◌++◌, length, get_or, drop, map, refl, sym, ap, subst, ◌∙◌, append_assoc, append-nil, add-one, arith, drop-cons}
+use Rattle.std.proofs.lemmas.List.{length-append, get_or_append_left, drop-drop}
 use Rattle.std.proofs.Math.ListN.{drop_of_length-le}
 use Rattle.std.specs.Prelude.{T}
 use Rattle.std.specs.Cmp.Lexicographic.{nat_list_cmp_total}
@@ -10,7 +11,8 @@ use Rattle.df_model.specs.Values.{Bytes, Members}
 use Rattle.df_model.specs.Members.{insert, with_all, union}
 use Rattle.df_colls.specs.Roomy.{order}
 use Rattle.df_colls.specs.Places.{AllAbove, Makes}
-use Rattle.df_colls.specs.Merged.{with_put}
+use Rattle.df_colls.specs.Merged.{with_put, IsMerged}
+use Rattle.df_colls.specs.Runs.{IsFront}
 use Rattle.df_colls.proofs.OrderLaws.{second, same_key, flip, above_first, above_lower}
 use Rattle.df_colls.proofs.PlaceLaws.{makes}
 
@@ -70,6 +72,21 @@ module _ (left right out new whole : List Entry) (i j : ℕ) (x y : Entry) where
   pub turn_greater : Next → order x.0 y.0 ≡ Greater → new ≡ out ++ y ∷ [] → new ++ with_put (drop (j + 1) right) (drop i left) ≡ whole
   turn_greater n e p =
       moved out new _ _ whole y p (parts n ∙ from_greater x y _ _ (sorted_next n) e ∙ ap (λ xs. y ∷ with_put (drop (j + 1) right) xs) (sym (drop_at left i x n.1 n.3))) n.5
+
+-- ---- what stands next in two runs, and two runs merged
+
+pub next_in : (ours theirs ls rs out new whole : List Entry) (i j : ℕ) (x y : Entry) → T (is_sorted order (theirs ++ rs)) → i < length ours → j < length theirs → x ≡ get_or ours i x → y ≡ get_or theirs j y → out ++ with_put (drop j (theirs ++ rs)) (drop i (ours ++ ls)) ≡ whole → Next (ours ++ ls) (theirs ++ rs) out new whole i j x y
+next_in ours theirs ls rs out new whole i j x y s l r xe ye w =
+    (s, omega (arith, l, length-append ours ls), omega (arith, r, length-append theirs rs), xe ∙ sym (get_or_append_left ours ls x i l), ye ∙ sym (get_or_append_left theirs rs y j r), w)
+
+pub merged_step : (left right old new ours theirs whole : List Entry) (i j m n : ℕ) → T (is_sorted order right) → IsFront (drop i left) ours → IsFront (drop j right) theirs → IsMerged old new ours theirs m n → old ++ with_put (drop j right) (drop i left) ≡ whole → new ++ with_put (drop (j + n) right) (drop (i + m) left) ≡ whole
+merged_step left right old new ours theirs whole i j m n s f g h w =
+    ap (λ xs. new ++ with_put xs (drop (i + m) left)) (sym (drop-drop n j right) ∙ ap (drop n) g.1)
+    ∙ ap (λ xs. new ++ with_put (drop n (theirs ++ g.0)) xs) (sym (drop-drop m i left) ∙ ap (drop m) f.1)
+    ∙ h f.0 g.0 (subst (λ xs. T (is_sorted order xs)) g.1 (sorted_drop right j s))
+    ∙ ap (λ xs. old ++ with_put xs (ours ++ f.0)) (sym g.1)
+    ∙ ap (λ xs. old ++ with_put (drop j right) xs) (sym f.1)
+    ∙ w
 
 -- ---- the end: one list has ended, and what is left of both follows
 

@@ -1,8 +1,8 @@
 -- Chunks in memory: the list that they make, and what keeps them sound.
-use Rattle.std.proofs.Common.{◌≡◌, ℕ, zero, suc, ◌+◌, ◌-◌, ◌*◌, ◌<◌, ◌≤◌, List, [], ◌∷◌, ◌++◌, length, get_or, set, take, drop, inl, inr, refl, sym, ap, subst, ◌∙◌, add-one, arith, vec_len, vec_capacity}
+use Rattle.std.proofs.Common.{◌≡◌, ℕ, zero, suc, ◌+◌, ◌-◌, ◌*◌, ◌<◌, ◌≤◌, List, [], ◌∷◌, ◌++◌, length, map, get_or, set, take, drop, inl, inr, refl, sym, ap, subst, ◌∙◌, add-one, arith, vec_len, vec_capacity}
 use Rattle.std.specs.declared.vec.Vec.{Vec}
 use Rattle.std.specs.List.{All, insert, remove, sum_by}
-use Rattle.std.proofs.lemmas.List.{length-set, length-map, map-set, map-append, take-map, drop_more, drop-drop, drop_at, drop-set-lt, take-set, length-append, length_push}
+use Rattle.std.proofs.lemmas.List.{length-set, length-map, map-set, map-append, take-map, drop-map, drop_more, drop-drop, drop_at, drop-set-lt, take-set, length-append, length_push}
 use Rattle.std.proofs.lemmas.List.Elements.{All-set, All-map, All-same, All-push, All-head, All-tail}
 use Rattle.std.proofs.lemmas.List.Edits.{length-insert, length-remove}
 use Rattle.std.proofs.lemmas.List.Sums.{sum_by-le}
@@ -14,6 +14,19 @@ use Rattle.df_colls.specs.Parts.{item_lists, spare_of, IsFree, IsSound, AreHalve
 use Rattle.df_colls.proofs.CutLaws.{parted, inserted, replaced, removed, read, split, without}
 use Rattle.df_colls.proofs.RoomLaws.{all-insert, all-remove, rest-set, rest-insert, rest-remove, some_chunk}
 
+module _ {V W : Type 0} (f : V → W) where
+  pub map-insert : (vs : List V) (i : ℕ) (v : V) → map f (insert vs i v) ≡ insert (map f vs) i (f v)
+  map-insert vs i v =
+      map-append f (take i vs) (v ∷ drop i vs)
+      ∙ ap (λ l. l ++ f v ∷ map f (drop i vs)) (sym (take-map f i vs))
+      ∙ ap (λ l. take i (map f vs) ++ f v ∷ l) (sym (drop-map f i vs))
+
+  pub map-remove : (vs : List V) (i : ℕ) → map f (remove vs i) ≡ remove (map f vs) i
+  map-remove vs i =
+      map-append f (take i vs) (drop (suc i) vs)
+      ∙ ap (λ l. l ++ map f (drop (suc i) vs)) (sym (take-map f i vs))
+      ∙ ap (λ l. take i (map f vs) ++ l) (sym (drop-map f (suc i) vs))
+
 module _ {A Z : Type 0} where
   -- ---- lists of chunks
 
@@ -22,29 +35,18 @@ module _ {A Z : Type 0} where
   list_at (v ∷ vs) zero c lt is = ap (λ w. w.items) (sym is)
   list_at (v ∷ vs) (suc i) c lt is = list_at vs i c (omega arith) is
 
-  lists-drop : (n : ℕ) (vs : List (Vec A Z)) → drop n (item_lists vs) ≡ item_lists (drop n vs)
-  lists-drop zero vs = refl
-  lists-drop (suc n) [] = refl
-  lists-drop (suc n) (v ∷ vs) = lists-drop n vs
-
   lists-set : (vs : List (Vec A Z)) (i : ℕ) (d : Vec A Z) → item_lists (set vs i d) ≡ set (item_lists vs) i d.items
   lists-set vs i d = map-set (λ v. v.items) vs i d
 
   lists-insert : (vs : List (Vec A Z)) (i : ℕ) (d : Vec A Z) → item_lists (insert vs i d) ≡ insert (item_lists vs) i d.items
-  lists-insert vs i d =
-      map-append (λ v. v.items) (take i vs) (d ∷ drop i vs)
-      ∙ ap (λ l. l ++ d.items ∷ item_lists (drop i vs)) (sym (take-map (λ v. v.items) i vs))
-      ∙ ap (λ l. take i (item_lists vs) ++ d.items ∷ l) (sym (lists-drop i vs))
+  lists-insert = map-insert (λ v. v.items)
 
   lists-remove : (vs : List (Vec A Z)) (i : ℕ) → item_lists (remove vs i) ≡ remove (item_lists vs) i
-  lists-remove vs i =
-      map-append (λ v. v.items) (take i vs) (drop (suc i) vs)
-      ∙ ap (λ l. l ++ item_lists (drop (suc i) vs)) (sym (take-map (λ v. v.items) i vs))
-      ∙ ap (λ l. take i (item_lists vs) ++ l) (sym (lists-drop (suc i) vs))
+  lists-remove = map-remove (λ v. v.items)
 
   pub filled_is : (vs : List (Vec A Z)) → All (λ c. 0 < vec_len c) (drop 1 vs) → IsFilled (item_lists vs)
   filled_is vs h =
-      All-same (λ c. 0 < length c) (drop 1 (item_lists vs)) (item_lists (drop 1 vs)) (lists-drop 1 vs)
+      All-same (λ c. 0 < length c) (drop 1 (item_lists vs)) (item_lists (drop 1 vs)) (drop-map (λ v. v.items) 1 vs)
       (All-map (λ c. 0 < length c) (λ v. v.items) (drop 1 vs) (λ k d lt. let n = h k d lt in let e = (get_or (drop 1 vs) k d).ok.0 in omega (arith, n, e)))
 
   pub filled_length : (vs : List (Vec A Z)) (i : ℕ) (c : Vec A Z) → i < length vs → c ≡ get_or vs i c → IsFilled (item_lists vs) → 0 < i → 0 < length c.items
@@ -54,17 +56,6 @@ module _ {A Z : Type 0} where
       let at = list_at vs i c (omega arith) is in
       let here = h i [] (omega (arith, length-map vs (λ w. w.items), lt)) in
       omega (arith, here, ap length at)
-
-  -- the next chunk is passed
-  pub run_on : (vs : List (Vec A Z)) (i n : ℕ) (c : Vec A Z) → i < length vs → c ≡ get_or vs i c → vec_len c ≤ n → drop n (flat (item_lists (drop i vs))) ≡ drop (n - vec_len c) (flat (item_lists (drop (i + 1) vs)))
-  run_on vs i n c lt is le =
-      let rest = flat (item_lists (drop (i + 1) vs)) in
-      let len : length c.items ≡ vec_len c = sym c.ok.0 in
-      let back : vec_len c + (n - vec_len c) ≡ n = omega arith in
-      ap (λ l. drop n (flat (item_lists l))) (drop_more vs i c lt ∙ ap (λ v. v ∷ drop (i + 1) vs) (sym is))
-      ∙ ap (λ k. drop k (c.items ++ rest)) (sym back)
-      ∙ sym (drop-drop (n - vec_len c) (vec_len c) (c.items ++ rest))
-      ∙ ap (drop (n - vec_len c)) (drop_at c.items rest (vec_len c) len)
 
   -- what is written before a removal there makes no difference
   pub remove-set : (vs : List (Vec A Z)) (i : ℕ) (d : Vec A Z) → i < length vs → remove (set vs i d) i ≡ remove vs i
@@ -157,6 +148,10 @@ module _ {A Z : Type 0} where
   pub more_len : (old new : List (Vec A Z)) (c : Vec A Z) → HasMore old new c → length old ≤ length new
   more_len old new c (inl e) = let n = ap length e ∙ length_push old c in omega (arith, n)
   more_len old new c (inr e) = let n = ap length e in omega (arith, n)
+
+  pub most_len : (old new : List (Vec A Z)) (c : Vec A Z) → HasMore old new c → length new ≤ length old + 1
+  most_len old new c (inl e) = let n = ap length e ∙ length_push old c in omega (arith, n)
+  most_len old new c (inr e) = let n = ap length e in omega (arith, n)
 
   pub last_free : (vs : List (Vec A Z)) (v : Vec A Z) → All IsFree (vs ++ v ∷ []) → IsFree v
   last_free [] v h = All-head IsFree v [] h

@@ -1,6 +1,6 @@
 -- What a place tells of the map: a change there is the map's own change.
 use Rattle.std.proofs.Common.{◌≡◌, ℕ, zero, suc, ◌<◌, ◌≤◌, Bool, true, false, cond, List, [], ◌∷◌, length, get_or, set, refl, sym, ap, subst, ◌∙◌, arith}
-use Rattle.std.specs.Prelude.{Option, Some, None, T, not}
+use Rattle.std.specs.Prelude.{Option, Some, None, Result, Ok, Err, MatchResult, T, not}
 use Rattle.std.specs.List.{insert, remove}
 use Rattle.std.specs.Ordering.{eq_by_cmp}
 use Rattle.std.specs.Cmp.{eq_by_cmp_equiv}
@@ -139,3 +139,7 @@ module _ {X : Type 0} where
     added = λ v. put_makes k v es _ s (put_new k v es i h);
     removed = sym (unless_is k es es s (unless_none k es i h)).same;
   }
+
+  pub placed : (k : Bytes) (es : List (Bytes × X)) (r : Result ℕ ℕ) → T (is_sorted order es) → MatchResult r (IsAt k es) (GoesTo k es) → MatchResult r (Present k es) (Absent k es)
+  placed k es (Ok i) s h = present k es i s h
+  placed k es (Err i) s h = absent k es i s h

@@ -3,6 +3,8 @@ pub mod Places
 pub mod Runs
 pub mod Cuts
 pub mod Parts
+pub mod Sums
+pub mod Bodies
 pub mod Kept
 pub mod Merged
 pub mod Counting

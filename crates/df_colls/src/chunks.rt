@@ -3,12 +3,14 @@
 //! Only the first chunk may be empty. Up to `FULL` items there is one chunk, which grows as a plain vector; a full chunk
 //! gives its upper half to one of the free chunks, which `reserve` took.
 
-ghost use Rattle.std.specs.Prelude.{◌≡◌, ◌+◌, ◌<◌, ◌≤◌, ◌++◌, ◌⊎◌, [], ◌∷◌, IfOk, OnOk, length, drop, slice_set, slice_index_or, vec_len, vec_capacity};
+ghost use Rattle.std.specs.Prelude.{◌≡◌, ◌+◌, ◌*◌, ◌<◌, ◌≤◌, ◌++◌, ◌⊎◌, [], ◌∷◌, IfOk, OnOk, length, sum, drop, slice_set, slice_index, slice_index_or, vec_len, vec_capacity};
 ghost use Rattle.std.specs.List.{All, insert, remove};
 ghost use Rattle.df_colls.specs.Cuts.{flat, index_of, IsPlace, IsGap, IsFilled};
 ghost use Rattle.df_colls.specs.Parts.{AreHalves, IsFull, IsSplit, HasMore, IsFree, item_lists};
 ghost use Rattle.df_colls.specs.Runs.{IsFront};
+ghost use Rattle.df_colls.specs.Sums.{lens_of};
 
+use crate::sums::Sums;
 use df_model::NoMemory;
 use std::alloc::Global;
 use std::marker::Model;
@@ -35,12 +37,14 @@ pub(crate) struct Place {
 pub(crate) struct Chunks<T> {
     parts: Vec<Vec<T>>,
     free: Vec<Vec<T>>,
+    sums: Sums,
     len: usize,
 }
 
 impl<T> Model for Chunks<T> {
     ghost use Rattle.df_colls.specs.Cuts.{Cut, cut_code};
     ghost use Rattle.df_colls.specs.Parts.{item_lists, spare_of, IsSound};
+    ghost use Rattle.df_colls.specs.Sums.{IsSummed};
 
     ghost Value = { Cut T };
 
@@ -48,7 +52,7 @@ impl<T> Model for Chunks<T> {
 
     ghost view = { λ c. record { parts = item_lists c.parts.items; spare = spare_of c.parts.items c.free.items } };
 
-    ghost invariant = { λ c. IsSound c.parts c.free c.len };
+    ghost invariant = { λ c. IsSound c.parts c.free c.len × IsSummed c.parts c.free c.sums };
 }
 
 impl<T: Drop> Chunks<T> {
@@ -59,6 +63,7 @@ impl<T: Drop> Chunks<T> {
         Chunks {
             parts: Vec::new(alloc),
             free: Vec::new(alloc),
+            sums: Sums::new(alloc),
             len: 0,
         }
     }
@@ -107,12 +112,15 @@ impl<T: Drop> Chunks<T> {
         self.len += 1;
         if self.parts[place.chunk].len() < FULL {
             add(&mut self.parts[place.chunk], place.at, item);
+            recount(&self.parts, &mut self.sums, place.chunk);
         } else {
             let high = match self.free.pop() {
                 Some(chunk) => chunk,
                 None => unreachable!(),
             };
             split_with(&mut self.parts, place, item, high);
+            recount(&self.parts, &mut self.sums, place.chunk);
+            count_new(&self.parts, &mut self.sums, place.chunk + 1);
         }
     }
 
@@ -125,6 +133,7 @@ impl<T: Drop> Chunks<T> {
     {
         self.len -= 1;
         let item = self.parts[place.chunk].remove(place.at);
+        recount(&self.parts, &mut self.sums, place.chunk);
         if place.chunk == 0 {
             return item;
         }
@@ -132,6 +141,7 @@ impl<T: Drop> Chunks<T> {
             return item;
         }
         let chunk = self.parts.remove(place.chunk);
+        self.sums.remove(place.chunk);
         give_back(&mut self.free, chunk);
         item
     }
@@ -141,14 +151,11 @@ impl<T: Drop> Chunks<T> {
         ensures front { IsFront (drop from (flat self.now.parts)) result.now }
         ensures goes_on { from < length (flat self.now.parts) → 0 < length result.now }
     {
-        let mut from = from;
-        'chunks: for chunk in self.parts.as_slice() {
-            if from < chunk.len() {
-                return &chunk.as_slice()[from..];
-            }
-            from -= chunk.len();
+        if from >= self.len {
+            return &[];
         }
-        &[]
+        let spot = self.sums.find(from);
+        &self.parts[spot.leaf].as_slice()[spot.rest..]
     }
 
     /// Makes room for `count` items, those that there is room for among them.
@@ -160,15 +167,28 @@ impl<T: Drop> Chunks<T> {
         if count <= self.free.len() {
             return Ok(());
         }
-        if self.parts.is_empty() {
-            let alloc = *self.parts.allocator();
-            self.parts.push(Vec::new(alloc))?;
-        }
+        self.begin()?;
         if self.parts.len() == 1 && count <= FULL - self.parts[0].len() {
             self.parts[0].reserve(count)?;
             return Ok(());
         }
         self.reserve_chunks(count)
+    }
+
+    /// The first chunk, where there is none yet.
+    fn begin(&mut self) -> Result<(), NoMemory>
+        ensures items { flat self.new.parts ≡ flat self.old.parts }
+        ensures spare { self.old.spare ≤ self.new.spare }
+        ensures ok { OnOk result (0 < length self.new.parts) }
+    {
+        if self.parts.len() > 0 {
+            return Ok(());
+        }
+        let alloc = *self.parts.allocator();
+        self.sums.reserve(1)?;
+        self.parts.push(Vec::new(alloc))?;
+        count_new(&self.parts, &mut self.sums, 0);
+        Ok(())
     }
 
     /// The same, in free chunks.
@@ -185,18 +205,21 @@ impl<T: Drop> Chunks<T> {
             return Err(NoMemory);
         }
         self.parts.reserve(wanted)?;
+        self.sums.reserve(self.parts.len() + wanted)?;
         let alloc = *self.parts.allocator();
         take_chunks(alloc, &mut self.free, wanted)
     }
 
-    /// Adds the item at the end.
-    pub(crate) fn push(&mut self, item: T) -> Result<(), NoMemory>
-        ensures { OnOk result (flat self.new.parts ≡ flat self.old.parts ++ item ∷ []) }
+    /// Puts the items at the end. Takes no memory.
+    pub(crate) fn push_all(&mut self, items: Vec<T>)
+        requires { vec_len items ≤ self.old.spare }
+        ensures items { flat self.new.parts ≡ flat self.old.parts ++ items.items }
+        ensures room { self.old.spare ≤ self.new.spare + vec_len items }
     {
-        self.reserve(1)?;
-        let place = self.end();
-        self.insert(place, item);
-        Ok(())
+        'items: for item in items {
+            let place = self.end();
+            self.insert(place, item);
+        }
     }
 
     /// Where an item would go at the end.
@@ -219,10 +242,35 @@ impl<T: Drop> Chunks<T> {
     {
         let mut chunks = Chunks::new(alloc);
         'items: for item in items {
-            chunks.push(item)?;
+            chunks.reserve(1)?;
+            let place = chunks.end();
+            chunks.insert(place, item);
         }
         Ok(chunks)
     }
+}
+
+/// The sums learn how long this chunk is now.
+fn recount<T>(parts: &Vec<Vec<T>>, sums: &mut Sums, chunk: usize)
+    requires chunk { (chunk < vec_len parts.now) × (chunk < length sums.old.lens) }
+    requires short { All (λ c. vec_len c ≤ FULL) parts.now.items }
+    requires fits { sum sums.old.lens ≤ MOST * FULL }
+    ensures lens { sums.new.lens ≡ slice_set sums.old.lens chunk (slice_index (lens_of parts.now.items) chunk) }
+    ensures room { sums.new.room ≡ sums.old.room }
+{
+    sums.set(chunk, parts[chunk].len());
+}
+
+/// The sums learn of a new chunk.
+fn count_new<T>(parts: &Vec<Vec<T>>, sums: &mut Sums, chunk: usize)
+    requires chunk { (chunk < vec_len parts.now) × (chunk ≤ length sums.old.lens) }
+    requires short { All (λ c. vec_len c ≤ FULL) parts.now.items }
+    requires fits { sum sums.old.lens ≤ MOST * FULL }
+    requires room { length sums.old.lens < sums.old.room }
+    ensures lens { sums.new.lens ≡ insert sums.old.lens chunk (slice_index (lens_of parts.now.items) chunk) }
+    ensures room { sums.new.room ≡ sums.old.room }
+{
+    sums.insert(chunk, parts[chunk].len());
 }
 
 /// Puts the item into a chunk that has room.

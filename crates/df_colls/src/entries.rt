@@ -1,41 +1,50 @@
 //! Entries in the order of their keys: what maps and sets of byte strings stand on.
 
-ghost use Rattle.std.specs.Prelude.{◌≡◌, ◌+◌, ◌<◌, ◌≤◌, IfOk, OnOk, MatchResult, T, length, drop, slice_get};
+ghost use Rattle.std.specs.Prelude.{◌≡◌, ◌+◌, ◌<◌, ◌≤◌, ◌++◌, IfOk, IfErr, OnOk, MatchResult, T, length, drop, slice_get, vec_len, vec_capacity};
 ghost use Rattle.std.specs.Option.{option_copied};
 ghost use Rattle.std.specs.FinMap as map;
 ghost use Rattle.df_colls.specs.Roomy.{order};
 ghost use Rattle.df_colls.specs.Cuts.{flat, IsFilled};
-ghost use Rattle.df_colls.specs.Places.{IsAt, GoesTo, IsFound, IsMissing, IsHome, Starts, made};
+ghost use Rattle.df_colls.specs.Places.{IsAt, GoesTo, Present, Absent, Makes, IsFound, IsMissing, IsHome, Starts, made};
 ghost use Rattle.df_colls.specs.Parts.{item_lists};
 ghost use Rattle.df_colls.specs.Runs.{IsFront};
 
-use crate::chunks::{Chunks, Place};
+use crate::chunks::{Chunks, FULL, Place};
 use crate::copies::{CopyIn, append};
 use df_model::{Bin, NoMemory};
 use std::alloc::Global;
 use std::cmp::Ordering;
 use std::marker::Model;
+use std::mem;
 
 /// A finite map from byte strings, and room for more entries.
 #[derive(Debug, Drop)]
 pub(crate) struct Entries<X> {
-    list: Chunks<(Bin, X)>,
+    body: Body<X>,
+}
+
+/// Up to `FULL` entries lie in one vector, which grows as any other; more lie in chunks. Only `reserve` makes chunks of a
+/// vector, so that no put takes memory.
+#[derive(Debug, Drop)]
+enum Body<X> {
+    Small(Vec<(Bin, X)>),
+    Large(Box<Chunks<(Bin, X)>>),
 }
 
 impl<X> Model for Entries<X> {
     ghost use Rattle.std.specs.Prelude.{T};
     ghost use Rattle.std.specs.FinMap.{is_sorted};
     ghost use Rattle.df_colls.specs.Roomy.{Roomy, roomy_code, order};
-    ghost use Rattle.df_colls.specs.Cuts.{flat};
+    ghost use Rattle.df_colls.specs.Bodies.{entries_of, room_of, IsShort};
     ghost use Rattle.df_colls.specs.Places.{made};
 
     ghost Value = { Roomy X };
 
     ghost coded = { roomy_code X.code };
 
-    ghost view = { λ e. record { contents = made (flat e.list.parts); spare = e.list.spare } };
+    ghost view = { λ e. record { contents = made (entries_of e.body); spare = room_of e.body } };
 
-    ghost invariant = { λ e. T (is_sorted order (flat e.list.parts)) };
+    ghost invariant = { λ e. T (is_sorted order (entries_of e.body)) × IsShort e.body };
 }
 
 impl<X: Drop> Entries<X> {
@@ -44,7 +53,7 @@ impl<X: Drop> Entries<X> {
         ensures { result.contents ≡ map.empty }
     {
         Entries {
-            list: Chunks::new(alloc),
+            body: Body::Small(Vec::new(alloc)),
         }
     }
 
@@ -53,15 +62,26 @@ impl<X: Drop> Entries<X> {
         requires { T (map.is_sorted order items.items) }
         ensures { IfOk result (λ entries. entries.contents ≡ made items.items) }
     {
-        let list = Chunks::from_items(alloc, items)?;
-        Ok(Entries { list })
+        if items.len() <= FULL {
+            return Ok(Entries {
+                body: Body::Small(items),
+            });
+        }
+        let chunks = Chunks::from_items(alloc, items)?;
+        let chunks = Box::new(alloc, chunks)?;
+        Ok(Entries {
+            body: Body::Large(chunks),
+        })
     }
 
     /// How many entries there are.
     pub(crate) fn len(&self) -> usize
         ensures { result ≡ map.len self.now.contents }
     {
-        self.list.len()
+        match &self.body {
+            Body::Small(items) => items.len(),
+            Body::Large(chunks) => chunks.len(),
+        }
     }
 
     /// Makes room for `count` entries, those that there is room for among them.
@@ -70,16 +90,28 @@ impl<X: Drop> Entries<X> {
         ensures spare { self.old.spare ≤ self.new.spare }
         ensures ok { OnOk result (count ≤ self.new.spare) }
     {
-        self.list.reserve(count)
+        match &mut self.body {
+            Body::Small(items) => {
+                if count <= FULL - items.len() {
+                    items.reserve(count)?;
+                    return Ok(());
+                }
+                let mut chunks = chunked(items)?;
+                let done = chunks.reserve(count);
+                self.body = Body::Large(chunks);
+                done
+            }
+            Body::Large(chunks) => chunks.reserve(count),
+        }
     }
 
     /// What stands at the key.
     pub(crate) fn get(&self, key: &[u8]) -> Option<&X>
         ensures { option_copied result ≡ map.get self.now.contents key.now }
     {
-        match find(&self.list, key) {
-            Ok(place) => Some(&self.list.get(place).1),
-            Err(_) => None,
+        match &self.body {
+            Body::Small(items) => held(items, key),
+            Body::Large(chunks) => held_among(chunks, key),
         }
     }
 
@@ -90,12 +122,9 @@ impl<X: Drop> Entries<X> {
         ensures old { result ≡ map.get self.old.contents key }
         ensures room { self.old.spare ≤ self.new.spare + 1 }
     {
-        match find(&self.list, key.as_slice()) {
-            Ok(place) => Some(self.list.replace(place, (key, value)).1),
-            Err(place) => {
-                self.list.insert(place, (key, value));
-                None
-            }
+        match &mut self.body {
+            Body::Small(items) => put(items, key, value),
+            Body::Large(chunks) => put_among(chunks, key, value),
         }
     }
 
@@ -105,9 +134,9 @@ impl<X: Drop> Entries<X> {
         ensures old { result ≡ map.get self.old.contents key.now }
         ensures spare { self.old.spare ≤ self.new.spare }
     {
-        match find(&self.list, key) {
-            Ok(place) => Some(self.list.remove(place).1),
-            Err(_) => None,
+        match &mut self.body {
+            Body::Small(items) => remove(items, key),
+            Body::Large(chunks) => remove_among(chunks, key),
         }
     }
 
@@ -124,14 +153,10 @@ impl<X: Drop> Entries<X> {
         ensures front { IsFront (drop from (map.entries self.now.contents)) result.now }
         ensures goes_on { from < map.len self.now.contents → 0 < length result.now }
     {
-        self.list.run(from)
-    }
-
-    /// All entries, in the chunks in which they lie.
-    pub(crate) fn parts(&self) -> &[Vec<(Bin, X)>]
-        ensures { flat (item_lists result.now) ≡ map.entries self.now.contents }
-    {
-        self.list.parts()
+        match &self.body {
+            Body::Small(items) => run(items, from),
+            Body::Large(chunks) => chunks.run(from),
+        }
     }
 }
 
@@ -140,19 +165,141 @@ impl<X: CopyIn> Entries<X> {
     pub(crate) fn copy(&self, alloc: Global) -> Result<Entries<X>, NoMemory>
         ensures { IfOk result (λ copy. copy.contents ≡ self.now.contents) }
     {
-        let items = self.copied(alloc)?;
+        let mut items = Vec::with_capacity(alloc, self.len())?;
+        self.append_from(alloc, &mut items, 0)?;
         Entries::from_items(alloc, items)
     }
 
-    /// Copies of all entries, in one vector.
-    pub(crate) fn copied(&self, alloc: Global) -> Result<Vec<(Bin, X)>, NoMemory>
-        ensures { IfOk result (λ items. items.items ≡ map.entries self.now.contents) }
+    /// Adds copies of the entries from this place on at the end. Where memory runs out, some of them may be there.
+    pub(crate) fn append_from(
+        &self,
+        alloc: Global,
+        to: &mut Vec<(Bin, X)>,
+        from: usize,
+    ) -> Result<(), NoMemory>
+        ensures { OnOk result (to.new.items ≡ to.old.items ++ drop from (map.entries self.now.contents)) }
     {
-        let mut items = Vec::with_capacity(alloc, self.len())?;
-        'chunks: for chunk in self.parts() {
-            append(alloc, &mut items, chunk.as_slice())?;
+        let mut at = from;
+        'runs: while at < self.len() {
+            let run = self.run(at);
+            append(alloc, to, run)?;
+            at += run.len();
         }
-        Ok(items)
+        Ok(())
+    }
+}
+
+// ---- in one vector
+
+/// What stands at the key.
+fn held<'a, X>(items: &'a Vec<(Bin, X)>, key: &[u8]) -> Option<&'a X>
+    requires { T (map.is_sorted order items.now.items) }
+    ensures { option_copied result ≡ map.get (made items.now.items) key.now }
+{
+    match place(items, key) {
+        Ok(i) => Some(&items[i].1),
+        Err(_) => None,
+    }
+}
+
+/// Puts the value at the key, and answers what stood there. Takes no memory.
+fn put<X: Drop>(items: &mut Vec<(Bin, X)>, key: Bin, value: X) -> Option<X>
+    requires sorted { T (map.is_sorted order items.old.items) }
+    requires room { vec_len items.old < vec_capacity items.old }
+    ensures entries { Makes items.new.items (map.insert (made items.old.items) key value) }
+    ensures old { result ≡ map.get (made items.old.items) key }
+    ensures len { vec_len items.new ≤ vec_len items.old + 1 }
+    ensures capacity { vec_capacity items.old ≤ vec_capacity items.new }
+{
+    match place(items, key.as_slice()) {
+        Ok(i) => Some(mem::replace(&mut items[i], (key, value)).1),
+        Err(i) => {
+            match items.insert(i, (key, value)) {
+                Ok(()) => {}
+                Err(_) => unreachable!(),
+            }
+            None
+        }
+    }
+}
+
+/// Removes the key, and answers what stood there.
+fn remove<X: Drop>(items: &mut Vec<(Bin, X)>, key: &[u8]) -> Option<X>
+    requires { T (map.is_sorted order items.old.items) }
+    ensures entries { Makes items.new.items (map.remove (made items.old.items) key.now) }
+    ensures old { result ≡ map.get (made items.old.items) key.now }
+    ensures len { vec_len items.new ≤ vec_len items.old }
+    ensures capacity { vec_capacity items.old ≤ vec_capacity items.new }
+{
+    match place(items, key) {
+        Ok(i) => Some(items.remove(i).1),
+        Err(_) => None,
+    }
+}
+
+/// The items from this place on.
+fn run<X>(items: &Vec<(Bin, X)>, from: usize) -> &[(Bin, X)]
+    ensures { result.now ≡ drop from items.now.items }
+{
+    let all = items.as_slice();
+    if from < all.len() { &all[from..] } else { &[] }
+}
+
+/// Moves the items into a first chunk.
+fn chunked<X: Drop>(items: &mut Vec<(Bin, X)>) -> Result<Box<Chunks<(Bin, X)>>, NoMemory>
+    requires { vec_len items.old ≤ FULL }
+    ensures items { IfOk result (λ chunks. flat chunks.value.parts ≡ items.old.items) }
+    ensures room { IfOk result (λ chunks. FULL ≤ chunks.value.spare + vec_len items.old) }
+    ensures kept { IfErr result (λ _. items.new ≡ items.old) }
+{
+    let alloc = *items.allocator();
+    let mut chunks = Box::new(alloc, Chunks::new(alloc))?;
+    chunks.reserve(FULL)?;
+    let all = mem::replace(items, Vec::new(alloc));
+    chunks.push_all(all);
+    Ok(chunks)
+}
+
+// ---- in chunks
+
+/// What stands at the key.
+fn held_among<'a, X: Drop>(chunks: &'a Chunks<(Bin, X)>, key: &[u8]) -> Option<&'a X>
+    requires { T (map.is_sorted order (flat chunks.now.parts)) }
+    ensures { option_copied result ≡ map.get (made (flat chunks.now.parts)) key.now }
+{
+    match find(chunks, key) {
+        Ok(place) => Some(&chunks.get(place).1),
+        Err(_) => None,
+    }
+}
+
+/// Puts the value at the key, and answers what stood there. Takes no memory.
+fn put_among<X: Drop>(chunks: &mut Chunks<(Bin, X)>, key: Bin, value: X) -> Option<X>
+    requires sorted { T (map.is_sorted order (flat chunks.old.parts)) }
+    requires room { 0 < chunks.old.spare }
+    ensures entries { Makes (flat chunks.new.parts) (map.insert (made (flat chunks.old.parts)) key value) }
+    ensures old { result ≡ map.get (made (flat chunks.old.parts)) key }
+    ensures spare { chunks.old.spare ≤ chunks.new.spare + 1 }
+{
+    match find(chunks, key.as_slice()) {
+        Ok(place) => Some(chunks.replace(place, (key, value)).1),
+        Err(place) => {
+            chunks.insert(place, (key, value));
+            None
+        }
+    }
+}
+
+/// Removes the key, and answers what stood there.
+fn remove_among<X: Drop>(chunks: &mut Chunks<(Bin, X)>, key: &[u8]) -> Option<X>
+    requires { T (map.is_sorted order (flat chunks.old.parts)) }
+    ensures entries { Makes (flat chunks.new.parts) (map.remove (made (flat chunks.old.parts)) key.now) }
+    ensures old { result ≡ map.get (made (flat chunks.old.parts)) key.now }
+    ensures spare { chunks.old.spare ≤ chunks.new.spare }
+{
+    match find(chunks, key) {
+        Ok(place) => Some(chunks.remove(place).1),
+        Err(_) => None,
     }
 }
 
@@ -210,7 +357,8 @@ fn starts_above<X>(chunk: &Vec<(Bin, X)>, key: &[u8]) -> bool
 /// Where the key stands in the chunk, or where it would go.
 fn place<X>(items: &Vec<(Bin, X)>, key: &[u8]) -> Result<usize, usize>
     requires { T (map.is_sorted order items.now.items) }
-    ensures { MatchResult result (IsAt key.now items.now.items) (GoesTo key.now items.now.items) }
+    ensures place { MatchResult result (IsAt key.now items.now.items) (GoesTo key.now items.now.items) }
+    ensures entry { MatchResult result (Present key.now items.now.items) (Absent key.now items.now.items) }
 {
     items.binary_search_by(|entry| entry.0.as_slice().cmp(key))
 }

@@ -9,12 +9,16 @@ use crate::entries::Entries;
 use df_model::{Bin, NoMemory};
 use std::alloc::Global;
 use std::marker::Model;
+use std::mem;
 
 /// A finite map from fields to what they hold, and room for `spare` puts.
 #[derive(Debug, Drop)]
 pub struct HashVal {
     entries: Entries<Bin>,
 }
+
+/// No wider than a vector and a word, so that a small hash costs what its fields do.
+const _: () = prove!(mem::size_of::<HashVal>() <= 32);
 
 impl Model for HashVal {
     ghost use Rattle.df_colls.specs.Roomy.{RoomyFields, roomy_fields_code};

@@ -10,6 +10,7 @@ mod copies;
 mod entries;
 mod hash;
 mod set;
+mod sums;
 #[cfg(test)]
 mod tests;
 

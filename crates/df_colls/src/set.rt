@@ -7,17 +7,21 @@ ghost use Rattle.df_model.specs.Members as members;
 ghost use Rattle.df_colls.specs.Runs.{IsFront};
 ghost use Rattle.df_colls.specs.Kept.{is_kept};
 
-use crate::combine::{kept, merged};
+use crate::combine::{keep, united};
 use crate::entries::Entries;
 use df_model::{Bin, NoMemory};
 use std::alloc::Global;
 use std::marker::Model;
+use std::mem;
 
 /// A finite set, and room for `spare` members more.
 #[derive(Debug, Drop)]
 pub struct SetVal {
     entries: Entries<()>,
 }
+
+/// No wider than a vector and a word.
+const _: () = prove!(mem::size_of::<SetVal>() <= 32);
 
 impl Model for SetVal {
     ghost use Rattle.df_colls.specs.Roomy.{RoomyMembers, roomy_members_code};
@@ -133,9 +137,7 @@ impl SetVal {
         ensures { IfOk result
             (λ either. either.members ≡ members.union self.now.members other.now.members) }
     {
-        let left = self.entries.copied(alloc)?;
-        let right = other.entries.copied(alloc)?;
-        let items = merged(alloc, left.as_slice(), right.as_slice())?;
+        let items = united(alloc, &self.entries, &other.entries)?;
         let entries = Entries::from_items(alloc, items)?;
         Ok(SetVal { entries })
     }
@@ -154,9 +156,11 @@ impl SetVal {
             (λ kept. kept.members ≡ map.retain_keys self.now.members (is_kept inside other.now.members)) }
     {
         let mut items = Vec::new(alloc);
-        'chunks: for chunk in self.entries.parts() {
-            let mut more = kept(alloc, chunk.as_slice(), &other.entries, inside)?;
-            items.append(&mut more)?;
+        let mut at = 0;
+        'runs: while at < self.entries.len() {
+            let run = self.entries.run(at);
+            keep(alloc, &mut items, run, &other.entries, inside)?;
+            at += run.len();
         }
         let entries = Entries::from_items(alloc, items)?;
         Ok(SetVal { entries })

@@ -33,7 +33,7 @@ fn sets_are_combined(rt: HostRuntime) -> Result<(), NoMemory> {
 }
 
 #[test]
-fn many_members_stand_in_order(rt: HostRuntime) -> Result<(), NoMemory> {
+fn many_members_are_kept_and_combined(rt: HostRuntime) -> Result<(), NoMemory> {
     let mut set = SetVal::new(rt.alloc());
     for i in 0..1000u32 {
         set.reserve(1)?;
@@ -41,5 +41,8 @@ fn many_members_stand_in_order(rt: HostRuntime) -> Result<(), NoMemory> {
         let _new = set.add(Bin::from_slice(rt.alloc(), name.as_slice())?);
     }
     assert_eq!(rt; set.len(), 1000);
+    let copy = set.copy(rt.alloc())?;
+    assert_eq!(rt; copy.union(rt.alloc(), &set)?.len(), 1000);
+    assert_eq!(rt; copy.diff(rt.alloc(), &set)?.len(), 0);
     Ok(())
 }

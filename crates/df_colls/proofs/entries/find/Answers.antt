@@ -28,7 +28,7 @@ returns-in-Ok g c =
     let vs = c.parts-parts.result.now in
     let e = c.parts-parts.ensures.parts in
     let lt = c.home-chunk.ensures.within in
-    let at = subst (λ es. IsAt c.args.key.now es c.in-Ok.at) (sym (list_at vs c.home-chunk.result c.index-parts-chunk.result lt c.index-parts-chunk.is)) c.in-Ok.ensures in
+    let at = subst (λ es. IsAt c.args.key.now es c.in-Ok.at) (sym (list_at vs c.home-chunk.result c.index-parts-chunk.result lt c.index-parts-chunk.is)) c.in-Ok.ensures.place in
     subst (λ ps. IsFound c.args.key.now ps (record { chunk = c.home-chunk.result; at = c.in-Ok.at })) e
     (found c.args.key.now (item_lists vs) (record { chunk = c.home-chunk.result; at = c.in-Ok.at }) (subst (λ ps. T (is_sorted order (flat ps))) (sym e) c.requires) c.home-chunk.ensures.home (omega (arith, lt, length-map vs (λ v. v.items))) at)
 
@@ -37,6 +37,6 @@ returns-in-Err g c =
     let vs = c.parts-parts.result.now in
     let e = c.parts-parts.ensures.parts in
     let lt = c.home-chunk.ensures.within in
-    let at = subst (λ es. GoesTo c.args.key.now es c.in-Err.at) (sym (list_at vs c.home-chunk.result c.index-parts-chunk.result lt c.index-parts-chunk.is)) c.in-Err.ensures in
+    let at = subst (λ es. GoesTo c.args.key.now es c.in-Err.at) (sym (list_at vs c.home-chunk.result c.index-parts-chunk.result lt c.index-parts-chunk.is)) c.in-Err.ensures.place in
     subst (λ ps. IsMissing c.args.key.now ps (record { chunk = c.home-chunk.result; at = c.in-Err.at })) e
     (missing c.args.key.now (item_lists vs) (record { chunk = c.home-chunk.result; at = c.in-Err.at }) (subst (λ ps. T (is_sorted order (flat ps))) (sym e) c.requires) c.home-chunk.ensures.home (omega (arith, lt, length-map vs (λ v. v.items))) at)

@@ -16,7 +16,7 @@ pub returns-clause-ok : goal.returns-clause-ok
 returns-clause-ok g c =
     then_ok _ _ c.take_chunks.result c.take_chunks.ensures.ok (λ le.
     let vs = c.reserve-2.new.self.items in
-    let s = c.self.invariant in
+    let s = c.self.invariant.0 in
     let parts = c.self.inside.parts.items in
     let one : 0 < length parts = subst (λ v. 0 < length v.parts → 0 < length parts) c.self.view_is (λ h. omega (arith, h, length-map parts (λ v. v.items))) c.requires in
     let here = fits_at parts 0 c.index_mut.result.now one c.index_mut.ensures.value s.fits in
