@@ -1,10 +1,9 @@
 -- The entries of a map as they lie, and a walk over them from run to run.
-use Rattle.std.proofs.Common.{◌≡◌, ℕ, ◌+◌, ◌<◌, ◌≤◌, List, [], ◌++◌, length, take, drop, refl, sym, ap, ◌∙◌, append_assoc, append-nil, arith}
+use Rattle.std.proofs.Common.{◌≡◌, ℕ, ◌+◌, ◌≤◌, List, [], ◌++◌, length, take, drop, refl, sym, ap, ◌∙◌, append_assoc, append-nil, arith}
 use Rattle.std.specs.Prelude.{T}
 use Rattle.std.specs.FinMap.{is_sorted}
 use Rattle.std.specs.FinMap as map
 use Rattle.std.proofs.lemmas.List.{length-append, length-drop, drop-drop, drop_at, drop_all, take-append-drop, take-take, drop-take, take_at}
-use Rattle.df_model.specs.Values.{Bytes}
 use Rattle.df_colls.specs.declared.entries.Body.{Body}
 use Rattle.df_colls.specs.Roomy.{Roomy, order}
 use Rattle.df_colls.specs.Bodies.{entries_of, room_of}

@@ -2,7 +2,7 @@
 use Rattle.std.proofs.Common.{◌≡◌, ℕ, zero, suc, ◌+◌, ◌-◌, ◌*◌, ◌<◌, ◌≤◌, List, [], ◌∷◌, ◌++◌, length, map, get_or, set, take, drop, inl, inr, refl, sym, ap, subst, ◌∙◌, add-one, arith, vec_len, vec_capacity}
 use Rattle.std.specs.declared.vec.Vec.{Vec}
 use Rattle.std.specs.List.{All, insert, remove, sum_by}
-use Rattle.std.proofs.lemmas.List.{length-set, length-map, map-set, map-append, take-map, drop-map, drop_more, drop-drop, drop_at, drop-set-lt, take-set, length-append, length_push}
+use Rattle.std.proofs.lemmas.List.{length-set, length-map, map-set, map-append, take-map, drop-map, drop-set-lt, take-set, length-append, length_push}
 use Rattle.std.proofs.lemmas.List.Elements.{All-set, All-map, All-same, All-push, All-head, All-tail}
 use Rattle.std.proofs.lemmas.List.Edits.{length-insert, length-remove}
 use Rattle.std.proofs.lemmas.List.Sums.{sum_by-le}

@@ -1,17 +1,17 @@
 -- The lengths of chunks, their sums, and what a change of the chunks makes of them.
-use Rattle.std.proofs.Common.{◌≡◌, ℕ, zero, suc, ◌+◌, ◌-◌, ◌*◌, ◌<◌, ◌≤◌, List, [], ◌∷◌, ◌++◌, length, map, get_or, set, take, drop, sum, refl, sym, ap, subst, ◌∙◌, arith, vec_len, vec_capacity}
+use Rattle.std.proofs.Common.{◌≡◌, ℕ, zero, suc, ◌+◌, ◌*◌, ◌<◌, ◌≤◌, List, [], ◌∷◌, ◌++◌, length, get_or, set, take, drop, sum, refl, sym, ap, ◌∙◌, arith, vec_len}
 use Rattle.std.specs.declared.vec.Vec.{Vec}
 use Rattle.std.specs.List.{All, insert, remove}
-use Rattle.std.proofs.lemmas.List.{length-set, length-map, length-append, length_push, map-append, map-set, take-map, drop-map, get_or-set_same, set-get_or, set-set, drop-drop, drop_at, drop-append-le, get_or_default, take_all}
-use Rattle.std.proofs.lemmas.List.Edits.{length-insert, length-remove, get_or-insert_at, get_or-insert_below}
+use Rattle.std.proofs.lemmas.List.{length-set, length-map, length-append, map-set, take-map, get_or-set_same, set-get_or, drop-drop, drop_at, drop-append-le}
+use Rattle.std.proofs.lemmas.List.Edits.{get_or-insert_at, get_or-insert_below}
 use Rattle.std.proofs.lemmas.List.Elements.{All-map, All-set, All-same}
 use Rattle.std.proofs.lemmas.List.Sums.{sum_by-cons, sum_by-le}
 use Rattle.df_colls.specs.declared.chunks.TheConstants.{FULL, MOST}
 use Rattle.df_colls.specs.declared.sums.Spot.{Spot}
-use Rattle.df_colls.specs.Cuts.{flat, chunk_at}
-use Rattle.df_colls.specs.Parts.{item_lists, IsSound}
+use Rattle.df_colls.specs.Cuts.{flat}
+use Rattle.df_colls.specs.Parts.{item_lists}
 use Rattle.df_colls.specs.Runs.{IsFront}
-use Rattle.df_colls.specs.Sums.{Lens, lens_of, IsSummed, IsSpot}
+use Rattle.df_colls.specs.Sums.{lens_of, IsSpot}
 use Rattle.df_colls.proofs.CutLaws.{parted}
 use Rattle.df_colls.proofs.RoomLaws.{all-insert}
 use Rattle.df_colls.proofs.PartLaws.{list_at, map-insert, map-remove}

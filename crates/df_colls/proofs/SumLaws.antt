@@ -3,14 +3,14 @@ use Rattle.std.proofs.Common.{◌≡◌, ℕ, zero, suc, ◌+◌, ◌-◌, ◌*�
 use Rattle.std.specs.declared.vec.Vec.{Vec}
 use Rattle.std.specs.List.{All}
 use Rattle.std.proofs.lemmas.Bool.{cases_lt}
-use Rattle.std.proofs.lemmas.List.{length-set, length-map, length_push, take-take, drop-take, take_all, take-append-le, take-set-le, take_more_set, drop-set-lt, drop_more, get_or-set_other, get_or-set_same, take_rest, get_or_default, nil_from_length, map-set, set-set, take-set}
+use Rattle.std.proofs.lemmas.List.{length-set, length-map, length_push, take-take, drop-take, take_all, take-append-le, take-set-le, take_more_set, drop-set-lt, drop_more, get_or-set_other, get_or-set_same, take_rest, get_or_default, nil_from_length, map-set, take-set}
 use Rattle.std.proofs.lemmas.List.Elements.{All-set}
 use Rattle.std.proofs.lemmas.List.Sums.{sum_by-take-drop, sum_by-cons, sum_by_push, sum_by_more, sum_by-take-le, get_or-le-sum_by}
 use Rattle.df_colls.specs.declared.sums.Spot.{Spot}
 use Rattle.df_colls.specs.declared.sums.TheConstants.{WIDTH}
 use Rattle.df_colls.specs.Cuts.{chunk_at}
 use Rattle.df_colls.specs.Parts.{item_lists}
-use Rattle.df_colls.specs.Sums.{lowest, IsAbove, IsNext, IsTower, with_len, IsSpot, IsEmptyLevel}
+use Rattle.df_colls.specs.Sums.{lowest, IsAbove, IsTower, with_len, IsSpot, IsEmptyLevel}
 use Rattle.df_colls.proofs.PartLaws.{list_at}
 
 -- ---- sums of a front

@@ -1,4 +1,4 @@
-use Rattle.std.proofs.Common.{◌-◌, ◌≤◌, ◌<◌, length, sym, ap, subst, ◌∙◌, sum, arith, vec_capacity}
+use Rattle.std.proofs.Common.{◌≤◌, length, sym, subst, ◌∙◌, arith, vec_capacity}
 use Rattle.std.proofs.lemmas.List.{set-set}
 use Rattle.df_colls.specs.Sums.{IsAbove}
 use Rattle.df_colls.proofs.SumLaws.{below_is, grouped_step}

@@ -1,4 +1,4 @@
-use Rattle.std.proofs.Common.{length, arith}
+use Rattle.std.proofs.Common.{arith}
 use Rattle.std.specs.FinMap as map
 use Rattle.df_colls.proofs.BodyLaws.{front_len, run_step, run_end}
 use Rattle.df_colls.proofs.entries.Entries.append_from.Goals as goal
