@@ -5,7 +5,7 @@ use Rattle.std.specs.List.{AllByRecursion}
 use Rattle.std.proofs.lemmas.Bool.{cases_lt, eq-eqb}
 use Rattle.df_model.specs.Keyspace.{Keyspace, held}
 use Rattle.df_model.specs.Hash.{shard_of}
-use Rattle.df_model.specs.History.{Item, IsLegal, RisesFrom}
+use Rattle.df_model.specs.History.{Item, IsLegal, RisesFrom, SeesItsOwn, IsOrdered}
 use Rattle.df_model.specs.declared.reply.Reply.{Reply}
 use Rattle.df_order.specs.Model.{Laws}
 use Rattle.df_order.specs.Histories as order
@@ -24,7 +24,7 @@ use Rattle.df_world.proofs.OneList.{the_list_legal, names_none_at, has_some}
 use Rattle.df_world.proofs.Seen.{first_seen, runs_seen}
 use Rattle.df_core.specs.Joined.{joined}
 use Rattle.df_core.specs.Calls.{calls}
-use Rattle.df_core.specs.History.{idle, part_of, with_draw, NamesAShard, SeesItsOwn, InOrder}
+use Rattle.df_core.specs.History.{idle, part_of, with_draw, NamesAShard}
 use Rattle.df_core.specs.Laws.{draws_of}
 use Rattle.df_core.proofs.JoinedLaws.{held_own, joined_is}
 use Rattle.df_core.proofs.HistoryLaws.{is_legal}
@@ -121,13 +121,13 @@ module _ (laws : (shards : ℕ) → 0 < shards → Laws (calls shards)) (shards 
         go false rest = rest last (omega (arith, lt))
 
     sees : (n count : ℕ) → 0 < n → n + count ≤ w.counter →
-        SeesItsOwn shards (drawn (from_on n count))
+        SeesItsOwn (NamesAShard shards) (drawn (from_on n count))
     sees n zero pos le = tt
     sees n (suc count) pos le = go (finished n) refl (sees (suc n) count (omega arith) (omega (arith, le)))
       where
         go : (b : Bool) → finished n ≡ b →
-            SeesItsOwn shards (drawn (from_on (suc n) count)) →
-            SeesItsOwn shards (drawn (if b then one n ∷ from_on (suc n) count else from_on (suc n) count))
+            SeesItsOwn (NamesAShard shards) (drawn (from_on (suc n) count)) →
+            SeesItsOwn (NamesAShard shards) (drawn (if b then one n ∷ from_on (suc n) count else from_on (suc n) count))
         go true f rest = (
           λ names. all_items (λ i. i.session ≡ w.caller n → n ≤ i.floor) (suc n) count
               (λ m le' lt' same. seen.told n m pos (omega (arith, le')) (omega (arith, lt', le)) (sym same) (entered n f names)),
@@ -136,7 +136,7 @@ module _ (laws : (shards : ℕ) → 0 < shards → Laws (calls shards)) (shards 
         go false f rest = rest
 
     -- in the order of their numbers
-    pub in_order : InOrder shards (drawn (the_list (calls shards) w finished replies))
+    pub in_order : IsOrdered (NamesAShard shards) (drawn (the_list (calls shards) w finished replies))
     in_order = record {
       rises = rises 0 1 (pred w.counter) (omega arith) (omega arith) (omega (arith, sound.counted));
       sees_its_own = sees 1 (pred w.counter) (omega arith) (omega (arith, sound.counted));

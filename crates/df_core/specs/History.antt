@@ -1,8 +1,7 @@
 -- The one history of calls on shards: an item for each number that was executed, in the order of the numbers.
 use Rattle.std.specs.Prelude.{◌≡◌, ◌≢◌, ℕ, ◌≤◌, List, [], ◌∷◌, map, None}
-use Rattle.std.specs.List.{AllByRecursion}
 use Rattle.df_model.specs.Keyspace.{Keyspace}
-use Rattle.df_model.specs.History.{Item, RisesFrom}
+use Rattle.df_model.specs.History.{Item}
 use Rattle.df_model.specs.Spared.{all_of}
 use Rattle.df_model.specs.declared.command.Call.{Call}
 use Rattle.df_model.specs.declared.command.Call.TheVariants.{Exec}
@@ -43,22 +42,6 @@ abbrev pub history_of : ℕ → (ℕ → Draw) → (ℕ → List Entry) → (ℕ
 history_of shards draws logs replies count =
     map (with_draw shards draws) (order.items (calls shards) (λ n. (draws n).call) logs replies 1 count)
 
--- ---- order
-
--- the call names a shard, so it has entries once it was executed
+-- the call names a shard, so it has entries once it was executed: sessions see their own such calls
 abbrev pub NamesAShard : ℕ → Call → Type 0
 NamesAShard shards call = (s : ℕ) × (footprint_of shards call s ≢ None)
-
--- the later items of the session have a floor that isn't below this number
-abbrev pub HasSeen : ℕ → ℕ → List Item → Type 0
-HasSeen session number items = AllByRecursion (λ (i : Item). i.session ≡ session → number ≤ i.floor) items
-
--- a session had seen each earlier call of its own that has entries
-abbrev pub SeesItsOwn : ℕ → List Item → Type 0
-SeesItsOwn shards [] = Unit {0}
-SeesItsOwn shards (i ∷ items) = (NamesAShard shards i.call → HasSeen i.session i.number items) × SeesItsOwn shards items
-
-pub record InOrder (shards : ℕ) (items : List Item) : Type 0 where
-  -- each number is above the one before it and above its own floor
-  pub rises : RisesFrom 0 items
-  pub sees_its_own : SeesItsOwn shards items

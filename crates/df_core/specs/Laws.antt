@@ -1,7 +1,7 @@
 -- The laws of calls on shards.
 use Rattle.std.specs.Prelude.{◌≡◌, ℕ, pred, ◌<◌, ◌≤◌, Bool, Some, List, map}
 use Rattle.df_model.specs.Keyspace.{Keyspace}
-use Rattle.df_model.specs.History.{Leads, IsLegal}
+use Rattle.df_model.specs.History.{Leads, IsLegal, IsOrdered}
 use Rattle.df_model.specs.declared.command.WholeOp.TheVariants as wholes
 use Rattle.df_model.specs.declared.command.Command.TheVariants.{Whole}
 use Rattle.df_model.specs.declared.command.Call.{Call}
@@ -22,7 +22,7 @@ use Rattle.df_core.specs.Due.{due}
 use Rattle.df_core.specs.Done.{Gives}
 use Rattle.df_core.specs.Joined.{joined}
 use Rattle.df_core.specs.Calls.{calls}
-use Rattle.df_core.specs.History.{Draw, idle, part_of, with_draw, history_of, InOrder}
+use Rattle.df_core.specs.History.{Draw, idle, part_of, with_draw, history_of, NamesAShard}
 
 -- the calls of clients keep what the order law asks of calls, on any number of shards
 abbrev pub CallsKeepTheLaws : Type 0
@@ -69,7 +69,7 @@ RunsAreInOrder =
     (shards : ℕ) → 0 < shards → (K : Keyspace) (events : List (Event (calls shards))) (w : World (calls shards)) →
     Runs (calls shards) (first (calls shards) idle (part_of shards K)) events w →
     (finished : ℕ → Bool) (replies : ℕ → Reply) → Finds (calls shards) w finished replies →
-    InOrder shards (map (with_draw shards (draws_of shards w)) (the_list (calls shards) w finished replies))
+    IsOrdered (NamesAShard shards) (map (with_draw shards (draws_of shards w)) (the_list (calls shards) w finished replies))
 
 -- every event that may happen keeps the scheduler invariant on every shard
 abbrev pub EventsKeepTheInvariant : Type 0

@@ -1,5 +1,6 @@
 -- The list of calls with their replies: what makes it legal, and what makes it ordered.
 use Rattle.std.specs.Prelude.{◌≡◌, ℕ, ◌<◌, ◌≤◌, List, [], ◌∷◌, Bool}
+use Rattle.std.specs.List.{AllByRecursion}
 use Rattle.df_model.specs.Keyspace.{Keyspace}
 use Rattle.df_model.specs.Calls.{Allowed}
 use Rattle.df_model.specs.declared.command.Call.{Call}
@@ -30,15 +31,22 @@ abbrev pub RisesFrom : ℕ → List Item → Type 0
 RisesFrom last [] = Unit {0}
 RisesFrom last (item ∷ items) = (last < item.number) × (item.floor < item.number) × RisesFrom item.number items
 
+-- ---- order
+
 -- the later items of the session have a floor that isn't below this number
 abbrev pub HasSeen : ℕ → ℕ → List Item → Type 0
-HasSeen session number [] = Unit {0}
-HasSeen session number (item ∷ items) = (item.session ≡ session → number ≤ item.floor) × HasSeen session number items
+HasSeen session number items = AllByRecursion (λ (i : Item). i.session ≡ session → number ≤ i.floor) items
 
-abbrev pub SeesItsOwn : List Item → Type 0
-SeesItsOwn [] = Unit {0}
-SeesItsOwn (item ∷ items) = HasSeen item.session item.number items × SeesItsOwn items
+-- a session had seen each earlier item of its own whose call left something to see
+abbrev pub SeesItsOwn : (Call → Type 0) → List Item → Type 0
+SeesItsOwn Leaves [] = Unit {0}
+SeesItsOwn Leaves (i ∷ items) = (Leaves i.call → HasSeen i.session i.number items) × SeesItsOwn Leaves items
 
-pub record IsOrdered (items : List Item) : Type 0 where
+-- `Leaves` tells which calls leave something to see: where calls are split over shards, those that name a shard
+pub record IsOrdered (Leaves : Call → Type 0) (items : List Item) : Type 0 where
   pub rises : RisesFrom 0 items
-  pub sees_its_own : SeesItsOwn items
+  pub sees_its_own : SeesItsOwn Leaves items
+
+-- each call leaves something to see
+abbrev pub each_call : Call → Type 0
+each_call call = Unit {0}

@@ -11,7 +11,7 @@ use Rattle.df_model.specs.Framing.{Splits}
 use Rattle.df_model.specs.Session.{State, Given, Heard, Control, heard_as, heard_counted, shutdown, ready_step, session_step}
 use Rattle.df_model.specs.Reads.{reads_linked}
 use Rattle.df_model.specs.Calls.{Allowed}
-use Rattle.df_model.specs.History.{Item, Leads, IsOrdered, RisesFrom, HasSeen, SeesItsOwn}
+use Rattle.df_model.specs.History.{Item, Leads, IsOrdered, RisesFrom, HasSeen, SeesItsOwn, each_call}
 use Rattle.df_model.specs.Output.{IsAtLast, MayStop, Walk, SessionOutput, farewell}
 use Rattle.df_model.specs.declared.command.Command.TheVariants.{Wrong}
 use Rattle.df_model.specs.declared.command.Call.{Call}
@@ -191,12 +191,12 @@ sees : (session number before : ℕ) (items : List Item) → number ≤ before �
 sees session number before [] le n = tt
 sees session number before (x ∷ items) le n = ((λ _. omega (arith, n.2)), sees session number (before + 1) items (omega arith) n.3)
 
-all_see : (before : ℕ) (items : List Item) → IsNumbered before items → SeesItsOwn items
+all_see : (before : ℕ) (items : List Item) → IsNumbered before items → SeesItsOwn each_call items
 all_see before [] n = tt
-all_see before (x ∷ items) n = (sees x.session x.number (before + 1) items (omega (arith, n.1)) n.3, all_see (before + 1) items n.3)
+all_see before (x ∷ items) n = ((λ _. sees x.session x.number (before + 1) items (omega (arith, n.1)) n.3), all_see (before + 1) items n.3)
 
 -- items that are numbered from 1 are ordered
-pub numbered_ordered : (items : List Item) → IsNumbered 0 items → IsOrdered items
+pub numbered_ordered : (items : List Item) → IsNumbered 0 items → IsOrdered each_call items
 numbered_ordered items n = record { rises = rises 0 items n; sees_its_own = all_see 0 items n }
 
 -- ---- the output

@@ -7,7 +7,7 @@ use Rattle.df_model.specs.Words.{Words}
 use Rattle.df_model.specs.Framing.{Framed, BeginsWhole, CanGoOn}
 use Rattle.df_model.specs.BadInput.{BadAt}
 use Rattle.df_model.specs.Replies.{protocol_error}
-use Rattle.df_model.specs.History.{Item, IsLegal, IsOrdered}
+use Rattle.df_model.specs.History.{Item, IsLegal, IsOrdered, each_call}
 use Rattle.df_model.specs.Output.{SessionOutput, MayStop}
 use Rattle.df_model.specs.declared.session.BadKind.{BadKind}
 use Rattle.df_model.specs.declared.session.Why.{Why}
@@ -60,7 +60,7 @@ pub record Ended (end : Why) (bytes out : Bytes) : Type 0 where
   pub framed : Framed bytes requests rest
   pub items : List Item
   pub legal : IsLegal no_keys items
-  pub ordered : IsOrdered items
+  pub ordered : IsOrdered each_call items
   pub numbered : IsNumbered 0 items
   pub output : SessionOutput requests end items out
 

@@ -6,7 +6,7 @@ use Rattle.df_model.specs.Keyspace.{no_keys}
 use Rattle.df_model.specs.Words.{Words}
 use Rattle.df_model.specs.Framing.{Framed, CanGoOn}
 use Rattle.df_model.specs.BadInput.{BadAt}
-use Rattle.df_model.specs.History.{Item, IsLegal, IsOrdered}
+use Rattle.df_model.specs.History.{Item, IsLegal, IsOrdered, each_call}
 use Rattle.df_model.specs.Output.{SessionOutput}
 use Rattle.df_model.specs.declared.session.BadKind.{BadKind}
 use Rattle.df_model.specs.declared.session.Why.{Why}
@@ -107,7 +107,7 @@ pub record PipeRan (end : Why) (run : Run) : Type 0 where
   pub framed : Framed bytes requests rest
   pub items : List Item
   pub legal : IsLegal no_keys items
-  pub ordered : IsOrdered items
+  pub ordered : IsOrdered each_call items
   pub numbered : IsNumbered 0 items
   pub shown : Why
   pub shows : Shows end bytes shown
