@@ -1,5 +1,5 @@
 -- The one history of calls on shards: an item for each number that was executed, in the order of the numbers.
-use Rattle.std.specs.Prelude.{◌≡◌, ◌≢◌, ℕ, ◌≤◌, List, [], ◌∷◌, map, None}
+use Rattle.std.specs.Prelude.{◌≢◌, ℕ, List, [], map, None}
 use Rattle.df_model.specs.Keyspace.{Keyspace}
 use Rattle.df_model.specs.History.{Item}
 use Rattle.df_model.specs.Spared.{all_of}
