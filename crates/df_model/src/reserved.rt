@@ -1,11 +1,12 @@
 //! Lists that take their memory before they are pushed to.
 
-ghost use Rattle.std.specs.Prelude.{◌≡◌, ◌+◌, ◌-◌, ◌≤◌, ◌<◌, max, [], ◌∷◌, ◌++◌, length, slice_get, OnOk, OnErr, MatchOption};
+ghost use Rattle.std.specs.Prelude.{◌≡◌, ◌+◌, ◌-◌, ◌≤◌, ◌<◌, max, [], ◌∷◌, ◌++◌, length, slice_get, slice_set, OnOk, OnErr, MatchOption};
 ghost use Rattle.std.specs.Option.{option_copied};
 
 use crate::{Bin, NoMemory};
 use std::alloc::Global;
 use std::marker::Model;
+use std::mem;
 
 /// A list with room for `spare` further elements, which are pushed without taking memory. Contracts
 /// see the elements and this number. The lists of a finished command or reply have no room.
@@ -111,6 +112,25 @@ impl<T> Reserved<T> {
         let last = self.items.pop()?;
         self.spare += 1;
         Some(last)
+    }
+
+    /// Puts the element in the place of another, which is answered.
+    pub fn replace(&mut self, at: usize, item: T) -> T
+        requires { at < length self.old.items }
+        ensures old { slice_get self.old.items at ≡ Some result }
+        ensures new { self.new ≡ record self.old { items = slice_set self.old.items at item } }
+    {
+        mem::replace(&mut self.items[at], item)
+    }
+
+    /// Drops all elements; their room stays. Takes no memory.
+    pub fn clear(&mut self)
+    where
+        T: Drop,
+        ensures { self.new ≡ record { items = []; spare = length self.old.items + self.old.spare } }
+    {
+        self.spare += self.items.len();
+        self.items.clear();
     }
 
     /// Gives up the room. Takes no memory.
