@@ -42,6 +42,16 @@ impl Pieces {
         }
     }
 
+    /// These bytes, which are moved in. Takes no memory.
+    pub fn from_vec(alloc: Global, bytes: Vec<u8>) -> Pieces
+        ensures { result ≡ bytes.items }
+    {
+        Pieces {
+            short: Short::new(),
+            rest: Rest::from_vec(alloc, bytes),
+        }
+    }
+
     /// How many bytes there are in all buffers.
     pub fn len(&self) -> usize
         ensures { result ≡ length self.now }

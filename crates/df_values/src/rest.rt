@@ -49,6 +49,17 @@ impl Rest {
         }
     }
 
+    /// These bytes. Takes no memory.
+    pub fn from_vec(alloc: Global, bytes: Vec<u8>) -> Rest
+        ensures { result ≡ bytes.items }
+    {
+        Rest {
+            kept: Vec::new(alloc),
+            kept_len: 0,
+            tail: bytes,
+        }
+    }
+
     /// Whether there are no bytes.
     pub fn is_empty(&self) -> bool
         ensures { IsTrue result ↔ (self.now ≡ []) }
