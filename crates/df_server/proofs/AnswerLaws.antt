@@ -12,8 +12,8 @@ use Rattle.df_model.specs.declared.command.Command.{Command}
 use Rattle.df_model.specs.declared.command.Command.TheVariants.{Plain, One, Many, Whole, Wrong}
 use Rattle.df_model.specs.declared.reply.ErrorText.TheVariants as errors
 use Rattle.df_model.specs.declared.reply.Reply.TheVariants.{Error}
-use Rattle.df_server.specs.Answers.{Answers, Replied}
-use Rattle.df_server.specs.Responses.{response, Gives}
+use Rattle.df_server.specs.Answers.{Answers, Replied, response}
+use Rattle.df_table.specs.Responses.{Gives}
 
 -- ---- requests
 

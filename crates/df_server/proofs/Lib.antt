@@ -1,14 +1,7 @@
 pub mod AnswerLaws
-pub mod CombosLaws
 pub mod EndLaws
 pub mod FeedLaws
-pub mod ListLaws
-pub mod NamesLaws
-pub mod OneLaws
 pub mod RunLaws
 pub mod ServedLaws
-pub mod SetLaws
-pub mod SeveralLaws
-pub mod TableLaws
 pub mod TurnLaws
 pub mod WriteLaws

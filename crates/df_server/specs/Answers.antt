@@ -2,6 +2,9 @@
 use Rattle.std.specs.Prelude.{◌≡◌, ◌⊎◌, List, Bool, ◌++◌}
 use Rattle.df_model.specs.Values.{Bytes}
 use Rattle.df_model.specs.Keyspace.{Keyspace}
+use Rattle.df_model.specs.Reads.{Reading}
+use Rattle.df_model.specs.Access.{Meaning}
+use Rattle.df_model.specs.Meaning.{meaning}
 use Rattle.df_model.specs.Replies.{encoding_of}
 use Rattle.df_model.specs.Session.{Given}
 use Rattle.df_model.specs.Calls.{Allowed}
@@ -10,6 +13,12 @@ use Rattle.df_model.specs.declared.reply.Reply.{Reply}
 use Rattle.df_model.specs.declared.reply.Reply.TheVariants.{Error}
 use Rattle.df_server.specs.declared.session.Handled.{Handled}
 use Rattle.df_server.specs.declared.session.Handled.TheVariants as handled
+
+-- what a request is answered where memory suffices, and the keyspace that it leaves
+abbrev pub response : Reading → Keyspace → Meaning
+response (Reading.Runs command) K = meaning command K
+response Reading.Unknown K = (Error errors.Unknown, K)
+response (Reading.Arity name) K = (Error (errors.Arity name), K)
 
 -- what the machine gives may be answered so, and leaves this keyspace
 abbrev pub Answers : Given → Keyspace → Reply → Keyspace → Type 0

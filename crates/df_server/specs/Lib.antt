@@ -1,10 +1,4 @@
 pub mod Answers
-pub mod Fates
-pub mod HeldSets
-pub mod Joined
-pub mod Moved
 pub mod Pipe
 pub mod Promise
-pub mod Responses
 pub mod Serving
-pub mod Tables

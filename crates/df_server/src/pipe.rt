@@ -9,10 +9,10 @@ ghost use Rattle.df_model.specs.Keyspace.{no_keys};
 ghost use Rattle.df_server.specs.Pipe.{IsGood, Reached, Answering, SaysBad, HasWritten, after_of, status_of, Turns, ReadsOn, Ran, Underway};
 
 use crate::session::{Handled, serve};
-use crate::table::Table;
 use df_model::BadKind;
 use df_outside::{Got, Put, Sink, Source};
 use df_resp::{Next, Reader, encode_protocol_error};
+use df_table::Table;
 use std::alloc::Global;
 
 /// Bytes that a session takes at the most (1 TiB), so that it ends whatever the source does.

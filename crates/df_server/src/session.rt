@@ -4,22 +4,18 @@
 //! first, and the put is the last step. So a command that finds none changes nothing, and the reply
 //! says so. Where that reply finds none either, nothing is added, and the session has to end.
 
-ghost use Rattle.std.specs.Prelude.{◌≡◌, ◌++◌, OnOk, OnErr, IfOk};
-ghost use Rattle.df_model.specs.Meaning.{meaning, plain};
-ghost use Rattle.df_model.specs.Replies.{encoding_of};
-ghost use Rattle.df_model.specs.Reads.{IsLinked, reads_linked};
+ghost use Rattle.std.specs.Prelude.{◌≡◌, OnOk, OnErr, IfOk};
+ghost use Rattle.df_model.specs.Reads.{reads_linked};
 ghost use Rattle.df_model.specs.Session.{State, controls, heard_as, heard_by, ready_step, session_step};
-ghost use Rattle.df_server.specs.Answers.{IsHandled};
-ghost use Rattle.df_server.specs.Responses.{response, Gives};
+ghost use Rattle.df_server.specs.Answers.{IsHandled, response};
+ghost use Rattle.df_table.specs.Responses.{Gives};
 
 use crate::controls::{quit, shutdown};
-use crate::many::run_many;
-use crate::table::Table;
-use crate::whole::run_whole;
 use bytes::Bytes;
-use df_model::{Command, ErrorText, NoMemory, PlainOp};
+use df_model::{ErrorText, NoMemory};
 use df_parse::{Refusal, read_linked};
-use df_resp::{encode_bulk, encode_error, encode_simple};
+use df_resp::encode_error;
+use df_table::Table;
 use df_text::is_name;
 use std::alloc::Global;
 
@@ -101,43 +97,9 @@ fn answer(
     ensures out { OnErr result (out.new.items ≡ out.old.items) }
 {
     match read_linked(alloc, words) {
-        Ok(command) => run(alloc, table, command, out),
+        Ok(command) => table.run(alloc, command, out),
         Err(Refusal::Unknown) => encode_error(&ErrorText::Unknown, out),
         Err(Refusal::Arity(error)) => encode_error(&error, out),
         Err(Refusal::NoMemory) => Err(NoMemory),
-    }
-}
-
-/// Runs a command that is linked to the session's table of commands.
-fn run(
-    alloc: Global,
-    table: &mut Table,
-    command: Command,
-    out: &mut Vec<u8>,
-) -> Result<(), NoMemory>
-    requires { IsLinked command }
-    ensures ok { OnOk result (Gives (meaning command table.old.keys) table.new.keys out.old.items out.new.items) }
-    ensures keys { OnErr result (table.new.keys ≡ table.old.keys) }
-    ensures out { OnErr result (out.new.items ≡ out.old.items) }
-{
-    match command {
-        Command::Plain(op) => run_plain(op, out),
-        Command::One(key, op) => table.run_one(alloc, key, op, out),
-        Command::Many(op) => run_many(alloc, table, op, out),
-        Command::Whole(op) => run_whole(alloc, table, op, out),
-        Command::Wrong(error) => encode_error(&error, out),
-    }
-}
-
-/// A command that needs no keys.
-fn run_plain(op: PlainOp, out: &mut Vec<u8>) -> Result<(), NoMemory>
-    ensures ok { OnOk result (out.new.items ≡ out.old.items ++ encoding_of (plain op)) }
-    ensures err { OnErr result (out.new.items ≡ out.old.items) }
-{
-    match op {
-        PlainOp::Ping(None) => encode_simple(b"PONG", out),
-        PlainOp::Ping(Some(message)) => encode_bulk(message.as_slice(), out),
-        PlainOp::Echo(message) => encode_bulk(message.as_slice(), out),
-        PlainOp::Select(_) => encode_simple(b"OK", out),
     }
 }

@@ -1,6 +1,0 @@
-use Rattle.std.proofs.Common.{◌≡◌, drop}
-use Rattle.df_model.specs.Meaning.Strings.{any_held}
-use Rattle.df_server.proofs.several.any_present.Given as goal
-
-abbrev pub invariant-pairs : goal.invariant-pairs
-invariant-pairs l = any_held l.table.keys (drop l.pair-index l.pairs) ≡ any_held l.table.keys l.pairs

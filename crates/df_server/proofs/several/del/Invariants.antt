@@ -1,6 +1,0 @@
-use Rattle.std.proofs.Common.{◌≡◌, drop}
-use Rattle.df_model.specs.Meaning.Any.{without_keys}
-use Rattle.df_server.proofs.several.del.Given as goal
-
-abbrev pub invariant-words : goal.invariant-words
-invariant-words l = without_keys (drop l.word-index l.words) l.table.keys ≡ without_keys l.words l.fn.table.keys

@@ -1,0 +1,24 @@
+//! Keys with their values, and every command run on them.
+//!
+//! A command goes in three steps: its reply is prepared and all memory of its change is taken; the reply's bytes go
+//! to the output; the change is made, which takes none. So want of memory at any of them leaves the keys as they were.
+#![tactic(auto)]
+
+mod combos;
+mod lines;
+mod many;
+mod moves;
+mod one;
+mod run;
+mod several;
+mod smove;
+mod table;
+mod whole;
+
+pub use many::run_many;
+pub use one::Fate;
+pub use table::Table;
+pub use whole::run_whole;
+
+#[cfg(test)]
+mod tests;

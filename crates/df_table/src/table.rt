@@ -1,0 +1,151 @@
+//! The one map of a session's keys.
+//!
+//! A map that hashes, so that a look-up costs the same however many keys there are. Room is taken apart from
+//! the puts that use it: a command of several keys takes all its room first, and then no put can fail.
+
+ghost use Rattle.std.specs.Prelude.{◌≡◌, ◌+◌, ◌<◌, ◌≤◌, Some, None, OnOk, is_some, IsTrue, IfOk, OnErr, map};
+ghost use Rattle.std.specs.List.{filter};
+ghost use Rattle.df_model.specs.Patterns.{is_match};
+ghost use Rattle.std.specs.Option.{option_copied, option_map};
+ghost use Rattle.std.specs.FinMap as fin;
+ghost use Rattle.df_model.specs.Keyspace.{held, with_held, no_keys};
+ghost use Rattle.df_model.specs.Meaning.{one};
+ghost use Rattle.df_values.specs.Seen.{seen};
+ghost use Rattle.df_table.specs.Fates.{RanAt};
+
+use crate::one::{Fate, run_on};
+use df_model::{Bin, NoMemory, OneOp};
+use df_text::glob;
+use df_values::Value;
+use std::alloc::Global;
+use std::collections::HashMap;
+use std::marker::Model;
+
+/// Keys with their values, and room for more keys.
+#[derive(Drop)]
+pub struct Table {
+    map: HashMap<Bin, Value>,
+}
+
+impl Model for Table {
+    ghost use Rattle.df_table.specs.Tables.{Roomy, roomy_code, keyspace_of};
+    ghost use Rattle.df_values.specs.Seen.{seen};
+    ghost use Rattle.std.specs.HashMap.{spare};
+
+    ghost Value = { Roomy };
+
+    ghost coded = { roomy_code };
+
+    ghost view = { λ t. record { keys = keyspace_of seen t.map.entries; spare = spare t.map } };
+}
+
+impl Table {
+    /// No keys. Takes no memory.
+    pub fn new(alloc: Global) -> Table
+        ensures { result.keys ≡ no_keys }
+    {
+        Table {
+            map: HashMap::new(alloc),
+        }
+    }
+
+    /// How many keys there are.
+    pub fn len(&self) -> usize
+        ensures { result ≡ fin.len self.now.keys }
+    {
+        self.map.len()
+    }
+
+    /// What the key holds, lent.
+    pub fn get(&self, key: &Bin) -> Option<&Value>
+        ensures { option_map seen (option_copied result) ≡ held self.now.keys key.now }
+    {
+        self.map.get(key)
+    }
+
+    /// Whether the key is there.
+    pub fn has(&self, key: &Bin) -> bool
+        ensures { result ≡ is_some (held self.now.keys key.now) }
+    {
+        self.get(key).is_some()
+    }
+
+    /// Makes room for `count` new keys, those that there is room for among them.
+    pub fn reserve(&mut self, count: usize) -> Result<(), NoMemory>
+        ensures keys { self.new.keys ≡ self.old.keys }
+        ensures spare { self.old.spare ≤ self.new.spare }
+        ensures ok { OnOk result (count ≤ self.new.spare) }
+    {
+        self.map.reserve(count)?;
+        Ok(())
+    }
+
+    /// Lets the key hold the value, in place of what it held. Takes no memory.
+    pub fn put(&mut self, key: Bin, value: Value)
+        requires { 0 < self.old.spare }
+        ensures keys { self.new.keys ≡ with_held self.old.keys key (Some (seen value)) }
+        ensures spare { self.old.spare ≤ self.new.spare + 1 }
+    {
+        match self.map.insert(key, value) {
+            Ok(_) => {}
+            Err(_) => unreachable!(),
+        }
+    }
+
+    /// Removes the key, and answers what it held. Its room stays.
+    pub fn remove(&mut self, key: &Bin) -> Option<Value>
+        ensures keys { self.new.keys ≡ with_held self.old.keys key.now None }
+        ensures old { option_map seen result ≡ held self.old.keys key.now }
+        ensures spare { self.old.spare ≤ self.new.spare }
+    {
+        self.map.remove(key)
+    }
+
+    /// Removes the key and what it holds. Its room stays.
+    pub fn forget(&mut self, key: &Bin)
+        ensures keys { self.new.keys ≡ with_held self.old.keys key.now None }
+        ensures spare { self.old.spare ≤ self.new.spare }
+    {
+        let _value = self.remove(key);
+    }
+
+    /// Removes all keys.
+    pub fn clear(&mut self)
+        ensures { self.new.keys ≡ no_keys }
+    {
+        self.map.clear();
+    }
+
+    /// Runs a command on what the key holds, but for the removal of the key.
+    pub fn run_on_held(
+        &mut self,
+        alloc: Global,
+        key: &Bin,
+        op: OneOp,
+        out: &mut Vec<u8>,
+    ) -> Result<Fate, NoMemory>
+        requires { IsTrue (is_some (held self.old.keys key.now)) }
+        ensures ok { IfOk result (λ fate. RanAt fate (one op) key.now self.old.keys self.new.keys out.old.items out.new.items) }
+        ensures keys { OnErr result (self.new.keys ≡ self.old.keys) }
+        ensures out { OnErr result (out.new.items ≡ out.old.items) }
+    {
+        match self.map.get_mut(key) {
+            Some(value) => run_on(alloc, op, value, out),
+            None => unreachable!(),
+        }
+    }
+
+    /// The keys that match the pattern, in byte order, lent.
+    pub fn names(&self, alloc: Global, pattern: &[u8]) -> Result<Vec<&Bin>, NoMemory>
+        ensures { IfOk result (λ names. map (λ name. name.now) names.items ≡ filter (is_match pattern.now) (fin.keys self.now.keys)) }
+    {
+        let mut names = Vec::new(alloc);
+        'keys: for key in self.map.keys() {
+            if glob(pattern, key.as_slice()) {
+                names.push(key)?;
+            }
+        }
+        names.sort_unstable();
+        Ok(names)
+    }
+}
