@@ -1,8 +1,7 @@
 //! One request of a session, from its words to its reply's bytes.
 //!
-//! What if memory runs out? All of it is taken before the keyspace changes: the reply's bytes come
-//! first, and the put is the last step. So a command that finds none changes nothing, and the reply
-//! says so. Where that reply finds none either, nothing is added, and the session has to end.
+//! What if memory runs out? A command takes all of it before the keyspace changes. So one that finds none changes
+//! nothing, and the reply says so. Where that reply finds none either, nothing is added, and the session has to end.
 
 ghost use Rattle.std.specs.Prelude.{◌≡◌, OnOk, OnErr, IfOk};
 ghost use Rattle.df_model.specs.Reads.{reads_linked};

@@ -14,7 +14,7 @@ use df_resp::{encode_bulk, encode_error, encode_simple};
 use std::alloc::Global;
 
 impl Table {
-    /// Runs a command that is linked to the session's table of commands.
+    /// Runs any command but SAVE, by the keys that it names.
     pub fn run(
         &mut self,
         alloc: Global,
