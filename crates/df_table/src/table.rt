@@ -1,4 +1,4 @@
-//! The one map of a session's keys.
+//! The one map of all keys.
 //!
 //! A map that hashes, so that a look-up costs the same however many keys there are. Room is taken apart from
 //! the puts that use it: a command of several keys takes all its room first, and then no put can fail.
