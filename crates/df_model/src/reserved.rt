@@ -133,6 +133,15 @@ impl<T> Reserved<T> {
         self.items.clear();
     }
 
+    /// Moves the list out with its room, and leaves the empty one. Takes no memory.
+    pub fn take(&mut self) -> Reserved<T>
+        ensures all { result ≡ self.old }
+        ensures left { self.new ≡ record { items = []; spare = 0 } }
+    {
+        let alloc = *self.items.allocator();
+        mem::replace(self, Reserved::new(alloc))
+    }
+
     /// Gives up the room. Takes no memory.
     pub fn seal(&mut self)
         ensures { self.new ≡ record { items = self.old.items; spare = 0 } }
