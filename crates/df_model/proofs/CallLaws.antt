@@ -6,7 +6,7 @@ use Rattle.df_model.specs.Values.{Bytes}
 use Rattle.df_model.specs.Words.{Words, is_name, same}
 use Rattle.df_model.specs.Reads.{Reading, linked, reads, reads_linked, saves}
 use Rattle.df_model.specs.Framing.{IsRequest}
-use Rattle.df_model.specs.Session.{State, Step, Heard, Given, Control, ControlShape, ControlRow, controls, shutdown, heard, heard_as, heard_counted, heard_by, given, machine, ready_step, queueing_step, append, execute, session_step, without_memory, MAX_QUEUED}
+use Rattle.df_model.specs.Session.{State, Step, Heard, Given, Control, ControlShape, ControlRow, alone, controls, shutdown, heard, heard_as, heard_counted, heard_by, given, machine, ready_step, queueing_step, append, execute, session_step, without_memory, MAX_QUEUED}
 use Rattle.df_model.specs.Calls.{HasWords, MayQueue, IsCall}
 use Rattle.df_model.specs.History.{Item}
 use Rattle.df_model.specs.Output.{Walk}
@@ -65,6 +65,10 @@ one_of : (b : Bool) (one other : Heard) → Keeps one → Keeps other → Keeps 
 one_of true one other p q = p
 one_of false one other p q = q
 
+alone_keeps : (control : Control) → Controls (alone control)
+alone_keeps control [] = tt
+alone_keeps control (word ∷ words) = tt
+
 shutdown_keeps : Controls shutdown
 shutdown_keeps [] = tt
 shutdown_keeps (word ∷ []) = one_of (is_name word (codes "nosave")) (Heard.Controls Control.Shutdown) (Heard.Spoken (Wrong errors.Syntax)) tt tt
@@ -79,7 +83,7 @@ heard_by_keeps (r ∷ rs) name words other all has =
 request_keeps : (words : Words) → IsRequest words → Keeps (heard words)
 request_keeps [] is = tt
 request_keeps (name ∷ words) is =
-    heard_by_keeps controls name words (heard_as (reads_linked (name ∷ words))) ((λ ws. tt), (shutdown_keeps, tt))
+    heard_by_keeps controls name words (heard_as (reads_linked (name ∷ words))) (alone_keeps Control.Multi, (alone_keeps Control.Exec, (alone_keeps Control.Discard, ((λ ws. tt), (shutdown_keeps, tt)))))
     (reading_keeps (reads (name ∷ words)) (λ command e. reads_keep (name ∷ words) command is.each e))
 
 given_keeps : (command : Command) → HasWords command → Calls (given command)

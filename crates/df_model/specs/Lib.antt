@@ -21,4 +21,5 @@ pub mod Session
 pub mod Calls
 pub mod History
 pub mod Output
+pub mod Spoken
 pub mod Laws

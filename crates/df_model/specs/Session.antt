@@ -48,7 +48,7 @@ pub data Given : Type 0 where
 abbrev pub Step : Type 0
 Step = Given × State
 
--- ---- the words that speak to the session itself, a row each; of these QUIT and SHUTDOWN run so far
+-- ---- the words that speak to the session itself, a row each
 
 -- how the words behind the name are heard, or None at a wrong count of words
 abbrev pub ControlShape : Type 0
@@ -57,6 +57,11 @@ ControlShape = Words → Option Heard
 pub record ControlRow : Type 0 where
   pub name : Bytes
   pub shape : ControlShape
+
+-- the name alone
+abbrev pub alone : Control → ControlShape
+alone control [] = Some (Heard.Controls control)
+alone control (word ∷ words) = None
 
 -- whatever words stand behind it
 abbrev pub quit : ControlShape
@@ -69,6 +74,9 @@ shutdown (a ∷ b ∷ more) = None
 
 abbrev pub controls : List ControlRow
 controls =
+    record { name = codes "multi"; shape = alone Control.Multi } ∷
+    record { name = codes "exec"; shape = alone Control.Exec } ∷
+    record { name = codes "discard"; shape = alone Control.Discard } ∷
     record { name = codes "quit"; shape = quit } ∷
     record { name = codes "shutdown"; shape = shutdown } ∷
     []

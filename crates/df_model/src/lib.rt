@@ -12,8 +12,6 @@ pub mod laws;
 mod reply;
 mod reserved;
 mod session;
-#[cfg(test)]
-mod tests;
 
 pub use bin::{Bin, NoMemory};
 pub use command::{
