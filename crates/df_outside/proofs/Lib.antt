@@ -1,1 +1,3 @@
 mod CutLemmas
+mod ArrivalLemmas
+pub mod PairLaws

@@ -7,3 +7,9 @@ pub mod MemSources
 pub mod MemSinks
 pub mod Contents
 pub mod MemDisks
+pub mod Links
+pub mod PairLinks
+pub mod Doors
+pub mod Arrivals
+pub mod MemLinks
+pub mod MemDoors

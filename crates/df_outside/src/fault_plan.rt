@@ -1,6 +1,6 @@
 //! Which calls of an object in memory are to fail, and how many did.
 
-ghost use Rattle.std.specs.Prelude.{◌≡◌, MatchBool};
+ghost use Rattle.std.specs.Prelude.{◌≡◌, ◌≤◌, MatchBool};
 ghost use Rattle.df_outside.specs.FaultPlans.{plan_of, fails_next, passed, failed, IsQuiet};
 
 use std::marker::Model;
@@ -40,6 +40,7 @@ impl FaultPlan {
         ensures named { result ≡ fails_next self.old }
         ensures counted { MatchBool result (self.new ≡ failed self.old) (self.new ≡ passed self.old) }
         ensures quiet { IsQuiet self.old self.new }
+        ensures grows { self.old.faults ≤ self.new.faults }
     {
         let fails = self.fails.contains(&self.calls);
         self.calls = self.calls.saturating_add(1);

@@ -1,4 +1,5 @@
-//! What lies outside: where bytes come from, where they go, and the disk that keeps a file.
+//! What lies outside: where bytes come from, where they go, the door that connections come through, and the
+//! disk that keeps a file.
 //!
 //! Each object has a count of faults that never falls, and a call answers Failed only where the count
 //! rose in that call or stands at its last value. Code that is generic over these traits can't raise a
@@ -6,20 +7,32 @@
 //! What an object gives or holds is told by the objects in memory; a real stream or disk tells nothing.
 #![tactic(auto)]
 
+mod arrivals;
 mod buffers;
 mod disks;
+mod doors;
 mod fault_plan;
+mod gates;
+mod links;
 mod mem_disk;
+mod mem_door;
+mod mem_link;
 mod mem_sink;
 mod mem_source;
+mod pair_link;
 mod pieces;
 mod puts;
 mod streams;
-#[cfg(test)]
-mod tests;
 
+pub use arrivals::Arrival;
 pub use disks::{Disk, Done, Had};
+pub use doors::{Came, Door, Poller};
+pub use gates::{Gate, NoGate};
+pub use links::Link;
 pub use mem_disk::MemDisk;
+pub use mem_door::MemDoor;
+pub use mem_link::MemLink;
 pub use mem_sink::MemSink;
 pub use mem_source::MemSource;
+pub use pair_link::PairLink;
 pub use streams::{Got, Put, Sink, Source};

@@ -63,7 +63,7 @@ impl Pieces {
 }
 
 /// The bytes from this place on.
-fn rest_of(piece: &Bin, at: usize) -> &[u8]
+pub(crate) fn rest_of(piece: &Bin, at: usize) -> &[u8]
     requires { at ≤ length piece.now }
     ensures rest { result.now ≡ drop at piece.now }
     ensures fits { length piece.now < 2 ^ 64 }
