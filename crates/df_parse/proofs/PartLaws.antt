@@ -1,7 +1,6 @@
 -- What is read among the rows that a word can name is read in the whole table.
 use Rattle.std.proofs.Common.{◌≡◌, ℕ, ◌<◌, ◌≤◌, ◌⊎◌, ◌&&◌, leb, arith, subst, List, [], ◌∷◌, refl, sym, ap, ◌∙◌, length, Bool, true, false, eqb}
 use mathlib.Core.Logic.{inl, inr}
-use Rattle.std.specs.Prelude.{Result}
 use Rattle.std.specs.Str.{str_to_ascii_lowercase}
 use Rattle.std.specs.Char.{to_ascii_lowercase}
 use Rattle.std.proofs.lemmas.List.{length-map}
@@ -9,12 +8,9 @@ use Rattle.std.proofs.lemmas.Bool.{cases_Bool, eq-eqb, ne_eqb, leb-true, and_par
 use Rattle.std.proofs.lemmas.Slice.Eq.{bytes_eq-Decides}
 use Rattle.df_model.specs.Values.{Bytes}
 use Rattle.df_model.specs.Words.{Words, is_name}
-use Rattle.df_model.specs.Reads.{reads_by, Reading, rows}
+use Rattle.df_model.specs.Reads.{reads_by, rows}
 use Rattle.df_model.specs.Reads.Shapes.{Row}
-use Rattle.df_model.specs.declared.command.Command.{Command}
-use Rattle.df_parse.specs.Reading.{AsRead}
 use Rattle.df_parse.specs.Parts.{before, only, only_length, only_begun, initial, is_another}
-use Rattle.df_parse.specs.declared.refusal.Refusal.{Refusal}
 
 -- a test that a word passes with each of its names: it looks at no more than is_name does
 abbrev Fair : (Bytes → Bool) → Type 0
@@ -57,19 +53,13 @@ initial-lowered (b ∷ bs) = refl
 initials_same : (word name : Bytes) → is_name word name ≡ true → initial name ≡ initial word
 initials_same word name h = initial-lowered name ∙ (ap first_or_none (lowered word name h) ∙ sym (initial-lowered word))
 
--- ---- the parts that the code looks through
+-- ---- the part that the code looks through
 
-pub read_among : (n : ℕ) (name : Bytes) (words : Words) (result : Result Command Refusal) → length name ≡ n →
-    AsRead (reads_by (only_length n rows) name words) result → AsRead (reads_by rows name words) result
-read_among n name words result h read =
-    subst (λ reading. AsRead reading result)
-    (sym (reads_by-only (λ it. eqb (length it) n) (λ word it same. ap (λ m. eqb m n) (lengths_same word it same)) rows name words (eq-eqb (length name) n h))) read
-
-pub read_begun : (test : ℕ → Bool) (n : ℕ) (name : Bytes) (words : Words) (result : Result Command Refusal) → test (initial name) ≡ true →
-    AsRead (reads_by (only_begun test n rows) name words) result → AsRead (reads_by (only_length n rows) name words) result
-read_begun test n name words result h read =
-    subst (λ reading. AsRead reading result)
-    (sym (reads_by-only (λ it. test (initial it)) (λ word it same. ap test (initials_same word it same)) (only_length n rows) name words h)) read
+pub read_begun : (test : ℕ → Bool) (n : ℕ) (name : Bytes) (words : Words) → test (initial name) ≡ true → length name ≡ n →
+    reads_by rows name words ≡ reads_by (only_begun test n rows) name words
+read_begun test n name words begun long =
+    reads_by-only (λ it. test (initial it)) (λ word it same. ap test (initials_same word it same)) rows name words begun
+    ∙ reads_by-only (λ it. eqb (length it) n) (λ word it same. ap (λ m. eqb m n) (lengths_same word it same)) (only (λ it. test (initial it)) rows) name words (eq-eqb (length name) n long)
 
 -- a first letter that none of the tests takes
 pub another : (letter : ℕ) → (letter ≡ 104 → ⊥) → (letter ≡ 108 → ⊥) → (letter ≡ 114 → ⊥) → (letter ≡ 115 → ⊥) → is_another letter ≡ true
@@ -77,25 +67,19 @@ another letter h l r s = rw (ne_eqb letter 104 h, ne_eqb letter 108 l, ne_eqb le
 
 -- ---- lengths that no name has
 
--- whether all names have 3 to 11 letters
-abbrev within : List Row → Bool
-within [] = true
-within (r ∷ rs) = leb 3 (length r.name) && leb (length r.name) 11 && within rs
+-- whether all names have a length from one to the other
+abbrev pub within : ℕ → ℕ → List Row → Bool
+within low high [] = true
+within low high (r ∷ rs) = leb low (length r.name) && leb (length r.name) high && within low high rs
 
-none_outside : (table : List Row) (n : ℕ) → within table ≡ true → (n < 3) ⊎ (11 < n) → only_length n table ≡ []
-none_outside [] n h out = refl
-none_outside (r ∷ rs) n h out =
-    let parts = and_parts (leb 3 (length r.name) && leb (length r.name) 11) (within rs) h in
-    let bounds = and_parts (leb 3 (length r.name)) (leb (length r.name) 11) parts.0 in
-    rw (ne_eqb (length r.name) n (λ same. outside (length r.name) n (leb-true 3 (length r.name) bounds.0) (leb-true (length r.name) 11 bounds.1) out same)) (none_outside rs n parts.1 out)
+pub none_outside : (low high n : ℕ) (table : List Row) → within low high table ≡ true → (n < low) ⊎ (high < n) → only_length n table ≡ []
+none_outside low high n [] h out = refl
+none_outside low high n (r ∷ rs) h out =
+    let parts = and_parts (leb low (length r.name) && leb (length r.name) high) (within low high rs) h in
+    let bounds = and_parts (leb low (length r.name)) (leb (length r.name) high) parts.0 in
+    rw (ne_eqb (length r.name) n (λ same. outside (length r.name) n (leb-true low (length r.name) bounds.0) (leb-true (length r.name) high bounds.1) out same)) (none_outside low high n rs parts.1 out)
   where
     -- no number is both inside and outside
-    outside : (m k : ℕ) → 3 ≤ m → m ≤ 11 → (k < 3) ⊎ (11 < k) → m ≡ k → ⊥
-    outside m k low high (inl less) same = absurd (omega arith)
-    outside m k low high (inr more) same = absurd (omega arith)
-
--- a word of another length is no name
-pub read_none : (name : Bytes) (words : Words) → (length name < 3) ⊎ (11 < length name) → reads_by rows name words ≡ Reading.Unknown
-read_none name words out =
-    reads_by-only (λ it. eqb (length it) (length name)) (λ word it same. ap (λ m. eqb m (length name)) (lengths_same word it same)) rows name words (eq-eqb (length name) (length name) refl)
-    ∙ ap (λ few. reads_by few name words) (none_outside rows (length name) refl out)
+    outside : (m k : ℕ) → low ≤ m → m ≤ high → (k < low) ⊎ (high < k) → m ≡ k → ⊥
+    outside m k more less (inl below) same = absurd (omega arith)
+    outside m k more less (inr above) same = absurd (omega arith)

@@ -1,3 +1,4 @@
 pub mod Reading
 pub mod Ops
+pub mod Readers
 pub mod Parts

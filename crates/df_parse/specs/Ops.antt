@@ -6,6 +6,14 @@ use Rattle.df_model.specs.declared.command.OneOp.{OneOp}
 use Rattle.df_model.specs.declared.command.OneOp.TheVariants as one
 use Rattle.df_model.specs.declared.command.ManyOp.{ManyOp}
 use Rattle.df_model.specs.declared.command.ManyOp.TheVariants as many
+use Rattle.df_model.specs.declared.command.WholeOp.{WholeOp}
+use Rattle.df_model.specs.declared.command.WholeOp.TheVariants as whole
+use Rattle.df_parse.specs.declared.ops.Alone.{Alone}
+use Rattle.df_parse.specs.declared.ops.Flush.{Flush}
+use Rattle.df_parse.specs.declared.ops.Key.{Key}
+use Rattle.df_parse.specs.declared.ops.Alone.TheVariants as alone_ops
+use Rattle.df_parse.specs.declared.ops.Flush.TheVariants as flush_ops
+use Rattle.df_parse.specs.declared.ops.Key.TheVariants as key_ops
 use Rattle.df_parse.specs.declared.ops.KeyWord.{KeyWord}
 use Rattle.df_parse.specs.declared.ops.KeyNumber.{KeyNumber}
 use Rattle.df_parse.specs.declared.ops.KeyNumbers.{KeyNumbers}
@@ -28,6 +36,29 @@ use Rattle.df_parse.specs.declared.ops.ManyKeys.TheVariants as many_keys_ops
 use Rattle.df_parse.specs.declared.ops.KeyKeys.TheVariants as key_keys_ops
 use Rattle.df_parse.specs.declared.ops.TwoKeys.TheVariants as two_keys_ops
 use Rattle.df_parse.specs.declared.ops.ManyPairs.TheVariants as many_pairs_ops
+
+abbrev pub alone : Alone → WholeOp
+alone alone_ops.Save = whole.Save
+alone alone_ops.Dbsize = whole.Dbsize
+
+abbrev pub flush : Flush → WholeOp
+flush flush_ops.Flushall = whole.Flushall
+flush flush_ops.Flushdb = whole.Flushdb
+
+abbrev pub key : Key → OneOp
+key key_ops.Get = one.Get
+key key_ops.Getdel = one.Getdel
+key key_ops.Strlen = one.Strlen
+key key_ops.Incr = one.Incr
+key key_ops.Decr = one.Decr
+key key_ops.KindOf = one.KindOf
+key key_ops.Llen = one.Llen
+key key_ops.Hlen = one.Hlen
+key key_ops.Hkeys = one.Hkeys
+key key_ops.Hvals = one.Hvals
+key key_ops.Hgetall = one.Hgetall
+key key_ops.Scard = one.Scard
+key key_ops.Smembers = one.Smembers
 
 abbrev pub key_word : KeyWord → Bytes → OneOp
 key_word key_word_ops.Setnx = one.Setnx

@@ -4,6 +4,8 @@ use Rattle.std.specs.Char.{to_ascii_lowercase}
 use Rattle.std.specs.Str.{byte}
 use Rattle.df_model.specs.Values.{Bytes}
 use Rattle.df_model.specs.Reads.Shapes.{Row}
+use Rattle.df_parse.specs.declared.table.Initial.{Initial}
+use Rattle.df_parse.specs.declared.table.Initial.TheVariants as initials
 
 -- the row before these ones, or these ones alone
 abbrev pub before : Bool → Row → List Row → List Row
@@ -36,6 +38,13 @@ is_s letter = eqb letter (byte "s")
 abbrev pub is_another : ℕ → Bool
 is_another letter = not (is_h letter || is_l_or_r letter || is_s letter)
 
+-- whether a first letter is of this part
+abbrev pub in_part : Initial → ℕ → Bool
+in_part initials.H = is_h
+in_part initials.LOrR = is_l_or_r
+in_part initials.S = is_s
+in_part initials.Another = is_another
+
 -- the rows whose name has this length and a first letter that passes a test
 abbrev pub only_begun : (ℕ → Bool) → ℕ → List Row → List Row
-only_begun test n table = only (λ name. test (initial name)) (only_length n table)
+only_begun test n table = only_length n (only (λ name. test (initial name)) table)

@@ -9,14 +9,13 @@
 mod fields;
 mod keyless;
 mod many_keys;
-mod names;
 mod one_key;
 mod ops;
 mod options;
 mod read;
+mod reader;
 mod refusal;
-#[cfg(test)]
-mod tests;
+mod table;
 
 pub use read::{read_command, read_linked};
 pub use refusal::Refusal;

@@ -1,6 +1,5 @@
 //! Shapes of commands of several keys.
 
-ghost use Rattle.std.specs.Prelude.{codes};
 ghost use Rattle.df_model.specs.Reads.Shapes as shape;
 ghost use Rattle.df_parse.specs.Ops as op_of;
 ghost use Rattle.df_parse.specs.Reading.{RowRead};
@@ -15,8 +14,8 @@ use df_model::{Command, ErrorText, ManyOp};
 use std::alloc::Global;
 
 /// key ..
-pub fn keys(alloc: Global, name: &str, op: ManyKeys, words: &[Bytes]) -> Result<Command, Refusal>
-    ensures { RowRead name.now (shape.keys (op_of.keys op) words.now) result }
+pub fn keys(alloc: Global, name: &str, op: &ManyKeys, words: &[Bytes]) -> Result<Command, Refusal>
+    ensures { RowRead name.now (shape.keys (op_of.keys op.now) words.now) result }
 {
     match words {
         [_, ..] => {
@@ -28,8 +27,13 @@ pub fn keys(alloc: Global, name: &str, op: ManyKeys, words: &[Bytes]) -> Result<
 }
 
 /// key key ..
-pub fn key_keys(alloc: Global, name: &str, op: KeyKeys, words: &[Bytes]) -> Result<Command, Refusal>
-    ensures { RowRead name.now (shape.key_keys (op_of.key_keys op) words.now) result }
+pub fn key_keys(
+    alloc: Global,
+    name: &str,
+    op: &KeyKeys,
+    words: &[Bytes],
+) -> Result<Command, Refusal>
+    ensures { RowRead name.now (shape.key_keys (op_of.key_keys op.now) words.now) result }
 {
     match words {
         [target, keys @ ..] if !keys.is_empty() => {
@@ -42,8 +46,13 @@ pub fn key_keys(alloc: Global, name: &str, op: KeyKeys, words: &[Bytes]) -> Resu
 }
 
 /// The words behind the name: `key key`.
-pub fn two_keys(alloc: Global, name: &str, op: TwoKeys, words: &[Bytes]) -> Result<Command, Refusal>
-    ensures { RowRead name.now (shape.two_keys (op_of.two_keys op) words.now) result }
+pub fn two_keys(
+    alloc: Global,
+    name: &str,
+    op: &TwoKeys,
+    words: &[Bytes],
+) -> Result<Command, Refusal>
+    ensures { RowRead name.now (shape.two_keys (op_of.two_keys op.now) words.now) result }
 {
     match words {
         [source, target] => {
@@ -56,8 +65,8 @@ pub fn two_keys(alloc: Global, name: &str, op: TwoKeys, words: &[Bytes]) -> Resu
 }
 
 /// The words behind the name: `key key member`.
-pub fn smove(alloc: Global, words: &[Bytes]) -> Result<Command, Refusal>
-    ensures { RowRead (codes "smove") (shape.two_keys_word ManyOp.Smove words.now) result }
+pub fn smove(alloc: Global, name: &str, words: &[Bytes]) -> Result<Command, Refusal>
+    ensures { RowRead name.now (shape.two_keys_word ManyOp.Smove words.now) result }
 {
     match words {
         [source, target, member] => {
@@ -66,13 +75,13 @@ pub fn smove(alloc: Global, words: &[Bytes]) -> Result<Command, Refusal>
             let member = bin(alloc, member)?;
             Ok(Command::Many(ManyOp::Smove(source, target, member)))
         }
-        _ => arity(alloc, "smove"),
+        _ => arity(alloc, name),
     }
 }
 
 /// The words behind the name: `key key LEFT or RIGHT LEFT or RIGHT`.
-pub fn lmove(alloc: Global, words: &[Bytes]) -> Result<Command, Refusal>
-    ensures { RowRead (codes "lmove") (shape.lmove words.now) result }
+pub fn lmove(alloc: Global, name: &str, words: &[Bytes]) -> Result<Command, Refusal>
+    ensures { RowRead name.now (shape.lmove words.now) result }
 {
     match words {
         [source, target, from, to] => {
@@ -86,13 +95,13 @@ pub fn lmove(alloc: Global, words: &[Bytes]) -> Result<Command, Refusal>
             let target = bin(alloc, target)?;
             Ok(Command::Many(ManyOp::Lmove(source, target, from, to)))
         }
-        _ => arity(alloc, "lmove"),
+        _ => arity(alloc, name),
     }
 }
 
 /// MSET and MSETNX.
-pub fn pairs(alloc: Global, name: &str, op: ManyPairs, words: &[Bytes]) -> Result<Command, Refusal>
-    ensures { RowRead name.now (shape.pairs name.now (op_of.pairs op) words.now) result }
+pub fn pairs(alloc: Global, name: &str, op: &ManyPairs, words: &[Bytes]) -> Result<Command, Refusal>
+    ensures { RowRead name.now (shape.pairs name.now (op_of.pairs op.now) words.now) result }
 {
     match words {
         [_, _, ..] => {

@@ -1,13 +1,12 @@
 //! Shapes of commands of one key.
 
-ghost use Rattle.std.specs.Prelude.{codes};
 ghost use Rattle.df_model.specs.Reads.Shapes as shape;
 ghost use Rattle.df_parse.specs.Ops as op_of;
 ghost use Rattle.df_parse.specs.Reading.{CommandRead, RowRead};
 
 use crate::Refusal;
 use crate::fields::{bin, bins, number, pairs_of};
-use crate::ops::{KeyMany, KeyNumber, KeyNumberWord, KeyNumbers, KeyPairs, KeyWord, Pop};
+use crate::ops::{Key, KeyMany, KeyNumber, KeyNumberWord, KeyNumbers, KeyPairs, KeyWord, Pop};
 use crate::options::{beside_of, guards};
 use crate::refusal::{arity, unpaired};
 use bytes::Bytes;
@@ -15,21 +14,26 @@ use df_model::{Command, ErrorText, OneOp};
 use std::alloc::Global;
 
 /// The words behind the name: `key`.
-pub fn key(alloc: Global, name: &str, op: OneOp, words: &[Bytes]) -> Result<Command, Refusal>
-    ensures { RowRead name.now (shape.key op words.now) result }
+pub fn key(alloc: Global, name: &str, op: &Key, words: &[Bytes]) -> Result<Command, Refusal>
+    ensures { RowRead name.now (shape.key (op_of.key op.now) words.now) result }
 {
     match words {
         [key] => {
             let key = bin(alloc, key)?;
-            Ok(Command::One(key, op))
+            Ok(Command::One(key, op.op()))
         }
         _ => arity(alloc, name),
     }
 }
 
 /// The words behind the name: `key word`.
-pub fn key_word(alloc: Global, name: &str, op: KeyWord, words: &[Bytes]) -> Result<Command, Refusal>
-    ensures { RowRead name.now (shape.key_word (op_of.key_word op) words.now) result }
+pub fn key_word(
+    alloc: Global,
+    name: &str,
+    op: &KeyWord,
+    words: &[Bytes],
+) -> Result<Command, Refusal>
+    ensures { RowRead name.now (shape.key_word (op_of.key_word op.now) words.now) result }
 {
     match words {
         [key, word] => {
@@ -42,8 +46,8 @@ pub fn key_word(alloc: Global, name: &str, op: KeyWord, words: &[Bytes]) -> Resu
 }
 
 /// The words behind the name: `key field value`.
-pub fn hsetnx(alloc: Global, words: &[Bytes]) -> Result<Command, Refusal>
-    ensures { RowRead (codes "hsetnx") (shape.key_words OneOp.Hsetnx words.now) result }
+pub fn hsetnx(alloc: Global, name: &str, words: &[Bytes]) -> Result<Command, Refusal>
+    ensures { RowRead name.now (shape.key_words OneOp.Hsetnx words.now) result }
 {
     match words {
         [key, field, value] => {
@@ -52,7 +56,7 @@ pub fn hsetnx(alloc: Global, words: &[Bytes]) -> Result<Command, Refusal>
             let value = bin(alloc, value)?;
             Ok(Command::One(key, OneOp::Hsetnx(field, value)))
         }
-        _ => arity(alloc, "hsetnx"),
+        _ => arity(alloc, name),
     }
 }
 
@@ -60,10 +64,10 @@ pub fn hsetnx(alloc: Global, words: &[Bytes]) -> Result<Command, Refusal>
 pub fn key_number(
     alloc: Global,
     name: &str,
-    op: KeyNumber,
+    op: &KeyNumber,
     words: &[Bytes],
 ) -> Result<Command, Refusal>
-    ensures { RowRead name.now (shape.key_number (op_of.key_number op) words.now) result }
+    ensures { RowRead name.now (shape.key_number (op_of.key_number op.now) words.now) result }
 {
     match words {
         [key, word] => {
@@ -81,10 +85,10 @@ pub fn key_number(
 pub fn key_numbers(
     alloc: Global,
     name: &str,
-    op: KeyNumbers,
+    op: &KeyNumbers,
     words: &[Bytes],
 ) -> Result<Command, Refusal>
-    ensures { RowRead name.now (shape.key_numbers (op_of.key_numbers op) words.now) result }
+    ensures { RowRead name.now (shape.key_numbers (op_of.key_numbers op.now) words.now) result }
 {
     match words {
         [key, from, to] => by_numbers(alloc, op, key, from, to),
@@ -94,12 +98,12 @@ pub fn key_numbers(
 
 fn by_numbers(
     alloc: Global,
-    op: KeyNumbers,
+    op: &KeyNumbers,
     key: &Bytes,
     from: &Bytes,
     to: &Bytes,
 ) -> Result<Command, Refusal>
-    ensures { CommandRead (shape.by_numbers (op_of.key_numbers op) key.now from.now to.now) result }
+    ensures { CommandRead (shape.by_numbers (op_of.key_numbers op.now) key.now from.now to.now) result }
 {
     let Some(from) = number(from) else {
         return Ok(Command::Wrong(ErrorText::NotInteger));
@@ -115,10 +119,10 @@ fn by_numbers(
 pub fn key_number_word(
     alloc: Global,
     name: &str,
-    op: KeyNumberWord,
+    op: &KeyNumberWord,
     words: &[Bytes],
 ) -> Result<Command, Refusal>
-    ensures { RowRead name.now (shape.key_number_word (op_of.key_number_word op) words.now) result }
+    ensures { RowRead name.now (shape.key_number_word (op_of.key_number_word op.now) words.now) result }
 {
     match words {
         [key, number, word] => by_number_word(alloc, op, key, number, word),
@@ -128,12 +132,12 @@ pub fn key_number_word(
 
 fn by_number_word(
     alloc: Global,
-    op: KeyNumberWord,
+    op: &KeyNumberWord,
     key: &Bytes,
     digits: &Bytes,
     word: &Bytes,
 ) -> Result<Command, Refusal>
-    ensures { CommandRead (shape.by_number_word (op_of.key_number_word op) key.now digits.now word.now) result }
+    ensures { CommandRead (shape.by_number_word (op_of.key_number_word op.now) key.now digits.now word.now) result }
 {
     let Some(number) = number(digits) else {
         return Ok(Command::Wrong(ErrorText::NotInteger));
@@ -144,12 +148,12 @@ fn by_number_word(
 }
 
 /// The words behind the name: `key field number`.
-pub fn hincrby(alloc: Global, words: &[Bytes]) -> Result<Command, Refusal>
-    ensures { RowRead (codes "hincrby") (shape.key_word_number OneOp.Hincrby words.now) result }
+pub fn hincrby(alloc: Global, name: &str, words: &[Bytes]) -> Result<Command, Refusal>
+    ensures { RowRead name.now (shape.key_word_number OneOp.Hincrby words.now) result }
 {
     match words {
         [key, field, number] => hincrby_by(alloc, key, field, number),
-        _ => arity(alloc, "hincrby"),
+        _ => arity(alloc, name),
     }
 }
 
@@ -165,8 +169,13 @@ fn hincrby_by(alloc: Global, key: &Bytes, field: &Bytes, digits: &Bytes) -> Resu
 }
 
 /// key word ..
-pub fn key_many(alloc: Global, name: &str, op: KeyMany, words: &[Bytes]) -> Result<Command, Refusal>
-    ensures { RowRead name.now (shape.key_many (op_of.key_many op) words.now) result }
+pub fn key_many(
+    alloc: Global,
+    name: &str,
+    op: &KeyMany,
+    words: &[Bytes],
+) -> Result<Command, Refusal>
+    ensures { RowRead name.now (shape.key_many (op_of.key_many op.now) words.now) result }
 {
     match words {
         [key, words @ ..] if !words.is_empty() => {
@@ -179,8 +188,8 @@ pub fn key_many(alloc: Global, name: &str, op: KeyMany, words: &[Bytes]) -> Resu
 }
 
 /// The words behind the name: `key at bytes`.
-pub fn setrange(alloc: Global, words: &[Bytes]) -> Result<Command, Refusal>
-    ensures { RowRead (codes "setrange") (shape.setrange words.now) result }
+pub fn setrange(alloc: Global, name: &str, words: &[Bytes]) -> Result<Command, Refusal>
+    ensures { RowRead name.now (shape.setrange words.now) result }
 {
     match words {
         [key, at, bytes] => {
@@ -194,13 +203,13 @@ pub fn setrange(alloc: Global, words: &[Bytes]) -> Result<Command, Refusal>
             let bytes = bin(alloc, bytes)?;
             Ok(Command::One(key, OneOp::Setrange(at, bytes)))
         }
-        _ => arity(alloc, "setrange"),
+        _ => arity(alloc, name),
     }
 }
 
 /// LPOP and RPOP.
-pub fn pop(alloc: Global, name: &str, op: Pop, words: &[Bytes]) -> Result<Command, Refusal>
-    ensures { RowRead name.now (shape.pop (op_of.pop op) words.now) result }
+pub fn pop(alloc: Global, name: &str, op: &Pop, words: &[Bytes]) -> Result<Command, Refusal>
+    ensures { RowRead name.now (shape.pop (op_of.pop op.now) words.now) result }
 {
     match words {
         [key] => {
@@ -222,8 +231,8 @@ pub fn pop(alloc: Global, name: &str, op: Pop, words: &[Bytes]) -> Result<Comman
 }
 
 /// The words behind the name: `key value [NX] [XX]`.
-pub fn set(alloc: Global, words: &[Bytes]) -> Result<Command, Refusal>
-    ensures { RowRead (codes "set") (shape.set words.now) result }
+pub fn set(alloc: Global, name: &str, words: &[Bytes]) -> Result<Command, Refusal>
+    ensures { RowRead name.now (shape.set words.now) result }
 {
     match words {
         [key, bytes, options @ ..] => {
@@ -234,13 +243,13 @@ pub fn set(alloc: Global, words: &[Bytes]) -> Result<Command, Refusal>
             let bytes = bin(alloc, bytes)?;
             Ok(Command::One(key, OneOp::Set(bytes, guard)))
         }
-        _ => arity(alloc, "set"),
+        _ => arity(alloc, name),
     }
 }
 
 /// The words behind the name: `key BEFORE or AFTER pivot value`.
-pub fn linsert(alloc: Global, words: &[Bytes]) -> Result<Command, Refusal>
-    ensures { RowRead (codes "linsert") (shape.linsert words.now) result }
+pub fn linsert(alloc: Global, name: &str, words: &[Bytes]) -> Result<Command, Refusal>
+    ensures { RowRead name.now (shape.linsert words.now) result }
 {
     match words {
         [key, place, pivot, bytes] => {
@@ -252,7 +261,7 @@ pub fn linsert(alloc: Global, words: &[Bytes]) -> Result<Command, Refusal>
             let bytes = bin(alloc, bytes)?;
             Ok(Command::One(key, OneOp::Linsert(beside, pivot, bytes)))
         }
-        _ => arity(alloc, "linsert"),
+        _ => arity(alloc, name),
     }
 }
 
@@ -260,10 +269,10 @@ pub fn linsert(alloc: Global, words: &[Bytes]) -> Result<Command, Refusal>
 pub fn key_pairs(
     alloc: Global,
     name: &str,
-    op: KeyPairs,
+    op: &KeyPairs,
     words: &[Bytes],
 ) -> Result<Command, Refusal>
-    ensures { RowRead name.now (shape.key_pairs name.now (op_of.key_pairs op) words.now) result }
+    ensures { RowRead name.now (shape.key_pairs name.now (op_of.key_pairs op.now) words.now) result }
 {
     match words {
         [key, words @ ..] if words.len() > 1 => by_pairs(alloc, name, op, key, words),
@@ -274,11 +283,11 @@ pub fn key_pairs(
 fn by_pairs(
     alloc: Global,
     name: &str,
-    op: KeyPairs,
+    op: &KeyPairs,
     key: &Bytes,
     words: &[Bytes],
 ) -> Result<Command, Refusal>
-    ensures { CommandRead (shape.by_pairs name.now (op_of.key_pairs op) key.now words.now) result }
+    ensures { CommandRead (shape.by_pairs name.now (op_of.key_pairs op.now) key.now words.now) result }
 {
     let Some(pairs) = pairs_of(alloc, words)? else {
         return unpaired(alloc, name);

@@ -3,10 +3,85 @@
 ghost use Rattle.std.specs.Prelude.{◌≡◌};
 ghost use Rattle.df_parse.specs.Ops as op_of;
 
-use df_model::{Bin, Bins, ManyOp, OneOp, Pairs};
+use df_model::{Bin, Bins, ManyOp, OneOp, Pairs, WholeOp};
+
+/// Commands of nothing.
+pub enum Alone {
+    Save,
+    Dbsize,
+}
+
+impl Alone {
+    /// The command of this name.
+    pub fn op(&self) -> WholeOp
+        ensures { result ≡ op_of.alone self.now }
+    {
+        match self {
+            Alone::Save => WholeOp::Save,
+            Alone::Dbsize => WholeOp::Dbsize,
+        }
+    }
+}
+
+/// FLUSHALL and FLUSHDB.
+pub enum Flush {
+    Flushall,
+    Flushdb,
+}
+
+impl Flush {
+    /// The command of this name.
+    pub fn op(&self) -> WholeOp
+        ensures { result ≡ op_of.flush self.now }
+    {
+        match self {
+            Flush::Flushall => WholeOp::Flushall,
+            Flush::Flushdb => WholeOp::Flushdb,
+        }
+    }
+}
+
+/// Commands of a key.
+pub enum Key {
+    Get,
+    Getdel,
+    Strlen,
+    Incr,
+    Decr,
+    KindOf,
+    Llen,
+    Hlen,
+    Hkeys,
+    Hvals,
+    Hgetall,
+    Scard,
+    Smembers,
+}
+
+impl Key {
+    /// The command of this name.
+    pub fn op(&self) -> OneOp
+        ensures { result ≡ op_of.key self.now }
+    {
+        match self {
+            Key::Get => OneOp::Get,
+            Key::Getdel => OneOp::Getdel,
+            Key::Strlen => OneOp::Strlen,
+            Key::Incr => OneOp::Incr,
+            Key::Decr => OneOp::Decr,
+            Key::KindOf => OneOp::KindOf,
+            Key::Llen => OneOp::Llen,
+            Key::Hlen => OneOp::Hlen,
+            Key::Hkeys => OneOp::Hkeys,
+            Key::Hvals => OneOp::Hvals,
+            Key::Hgetall => OneOp::Hgetall,
+            Key::Scard => OneOp::Scard,
+            Key::Smembers => OneOp::Smembers,
+        }
+    }
+}
 
 /// Commands of a key and a word.
-#[derive(Clone, Copy)]
 pub enum KeyWord {
     Setnx,
     Getset,
@@ -19,8 +94,8 @@ pub enum KeyWord {
 
 impl KeyWord {
     /// The command of this name, with its fields.
-    pub fn op(self, word: Bin) -> OneOp
-        ensures { result ≡ op_of.key_word self word }
+    pub fn op(&self, word: Bin) -> OneOp
+        ensures { result ≡ op_of.key_word self.now word }
     {
         match self {
             KeyWord::Setnx => OneOp::Setnx(word),
@@ -35,7 +110,6 @@ impl KeyWord {
 }
 
 /// Commands of a key and a number.
-#[derive(Clone, Copy)]
 pub enum KeyNumber {
     Incrby,
     Decrby,
@@ -44,8 +118,8 @@ pub enum KeyNumber {
 
 impl KeyNumber {
     /// The command of this name, with its fields.
-    pub fn op(self, number: i64) -> OneOp
-        ensures { result ≡ op_of.key_number self number }
+    pub fn op(&self, number: i64) -> OneOp
+        ensures { result ≡ op_of.key_number self.now number }
     {
         match self {
             KeyNumber::Incrby => OneOp::Incrby(number),
@@ -56,7 +130,6 @@ impl KeyNumber {
 }
 
 /// Commands of a key and two numbers.
-#[derive(Clone, Copy)]
 pub enum KeyNumbers {
     Getrange,
     Lrange,
@@ -65,8 +138,8 @@ pub enum KeyNumbers {
 
 impl KeyNumbers {
     /// The command of this name, with its fields.
-    pub fn op(self, from: i64, to: i64) -> OneOp
-        ensures { result ≡ op_of.key_numbers self from to }
+    pub fn op(&self, from: i64, to: i64) -> OneOp
+        ensures { result ≡ op_of.key_numbers self.now from to }
     {
         match self {
             KeyNumbers::Getrange => OneOp::Getrange(from, to),
@@ -77,7 +150,6 @@ impl KeyNumbers {
 }
 
 /// Commands of a key, a number and a word.
-#[derive(Clone, Copy)]
 pub enum KeyNumberWord {
     Lset,
     Lrem,
@@ -85,8 +157,8 @@ pub enum KeyNumberWord {
 
 impl KeyNumberWord {
     /// The command of this name, with its fields.
-    pub fn op(self, number: i64, word: Bin) -> OneOp
-        ensures { result ≡ op_of.key_number_word self number word }
+    pub fn op(&self, number: i64, word: Bin) -> OneOp
+        ensures { result ≡ op_of.key_number_word self.now number word }
     {
         match self {
             KeyNumberWord::Lset => OneOp::Lset(number, word),
@@ -96,7 +168,6 @@ impl KeyNumberWord {
 }
 
 /// Commands of a key and one or more words.
-#[derive(Clone, Copy)]
 pub enum KeyMany {
     Lpush,
     Rpush,
@@ -111,8 +182,8 @@ pub enum KeyMany {
 
 impl KeyMany {
     /// The command of this name, with its fields.
-    pub fn op(self, words: Bins) -> OneOp
-        ensures { result ≡ op_of.key_many self words }
+    pub fn op(&self, words: Bins) -> OneOp
+        ensures { result ≡ op_of.key_many self.now words }
     {
         match self {
             KeyMany::Lpush => OneOp::Lpush(words),
@@ -129,7 +200,6 @@ impl KeyMany {
 }
 
 /// Commands of a key that may have a count.
-#[derive(Clone, Copy)]
 pub enum Pop {
     Lpop,
     Rpop,
@@ -137,8 +207,8 @@ pub enum Pop {
 
 impl Pop {
     /// The command of this name, with its fields.
-    pub fn op(self, count: Option<i64>) -> OneOp
-        ensures { result ≡ op_of.pop self count }
+    pub fn op(&self, count: Option<i64>) -> OneOp
+        ensures { result ≡ op_of.pop self.now count }
     {
         match self {
             Pop::Lpop => OneOp::Lpop(count),
@@ -148,7 +218,6 @@ impl Pop {
 }
 
 /// Commands of a key and pairs of words.
-#[derive(Clone, Copy)]
 pub enum KeyPairs {
     Hset,
     Hmset,
@@ -156,8 +225,8 @@ pub enum KeyPairs {
 
 impl KeyPairs {
     /// The command of this name, with its fields.
-    pub fn op(self, pairs: Pairs) -> OneOp
-        ensures { result ≡ op_of.key_pairs self pairs }
+    pub fn op(&self, pairs: Pairs) -> OneOp
+        ensures { result ≡ op_of.key_pairs self.now pairs }
     {
         match self {
             KeyPairs::Hset => OneOp::Hset(pairs),
@@ -167,7 +236,6 @@ impl KeyPairs {
 }
 
 /// Commands of one or more keys.
-#[derive(Clone, Copy)]
 pub enum ManyKeys {
     Del,
     Unlink,
@@ -180,8 +248,8 @@ pub enum ManyKeys {
 
 impl ManyKeys {
     /// The command of this name, with its fields.
-    pub fn op(self, keys: Bins) -> ManyOp
-        ensures { result ≡ op_of.keys self keys }
+    pub fn op(&self, keys: Bins) -> ManyOp
+        ensures { result ≡ op_of.keys self.now keys }
     {
         match self {
             ManyKeys::Del => ManyOp::Del(keys),
@@ -196,7 +264,6 @@ impl ManyKeys {
 }
 
 /// Commands of a key and one or more further keys.
-#[derive(Clone, Copy)]
 pub enum KeyKeys {
     Sinterstore,
     Sunionstore,
@@ -205,8 +272,8 @@ pub enum KeyKeys {
 
 impl KeyKeys {
     /// The command of this name, with its fields.
-    pub fn op(self, target: Bin, keys: Bins) -> ManyOp
-        ensures { result ≡ op_of.key_keys self target keys }
+    pub fn op(&self, target: Bin, keys: Bins) -> ManyOp
+        ensures { result ≡ op_of.key_keys self.now target keys }
     {
         match self {
             KeyKeys::Sinterstore => ManyOp::Sinterstore(target, keys),
@@ -217,7 +284,6 @@ impl KeyKeys {
 }
 
 /// Commands of two keys.
-#[derive(Clone, Copy)]
 pub enum TwoKeys {
     Rename,
     Renamenx,
@@ -226,8 +292,8 @@ pub enum TwoKeys {
 
 impl TwoKeys {
     /// The command of this name, with its fields.
-    pub fn op(self, source: Bin, target: Bin) -> ManyOp
-        ensures { result ≡ op_of.two_keys self source target }
+    pub fn op(&self, source: Bin, target: Bin) -> ManyOp
+        ensures { result ≡ op_of.two_keys self.now source target }
     {
         match self {
             TwoKeys::Rename => ManyOp::Rename(source, target),
@@ -238,7 +304,6 @@ impl TwoKeys {
 }
 
 /// Commands of pairs of a key and a word.
-#[derive(Clone, Copy)]
 pub enum ManyPairs {
     Mset,
     Msetnx,
@@ -246,8 +311,8 @@ pub enum ManyPairs {
 
 impl ManyPairs {
     /// The command of this name, with its fields.
-    pub fn op(self, pairs: Pairs) -> ManyOp
-        ensures { result ≡ op_of.pairs self pairs }
+    pub fn op(&self, pairs: Pairs) -> ManyOp
+        ensures { result ≡ op_of.pairs self.now pairs }
     {
         match self {
             ManyPairs::Mset => ManyOp::Mset(pairs),

@@ -5,7 +5,7 @@ ghost use Rattle.df_model.specs.Reads.{IsLinked, Reading, linked, reads, reads_l
 ghost use Rattle.df_parse.specs.Reading.{AsRead};
 
 use crate::Refusal;
-use crate::names::read_row;
+use crate::table::read_row;
 use bytes::Bytes;
 use df_model::{Command, ErrorText, WholeOp};
 use std::alloc::Global;
