@@ -1,30 +1,55 @@
-//! The program: the real streams and the words of the command line, handed to the server's one call.
+//! The program: the real streams, the door and the words of the command line, handed to the server's calls.
 #![tactic(auto)]
 
-mod streams;
-
 use df_outside::MemDisk;
-use df_server::offline;
+use df_real::{MioDoor, StdSink, StdSource};
+use df_server::{offline, serve};
 use std::alloc::AllocError;
-use std::env;
-use std::env::Env;
+use std::env::{Env, VarError};
 use std::io::ErrorKind;
+use std::net::{IpAddr, Ipv4Addr, SocketAddr};
 use std::process::ExitCode;
-use streams::{StdSink, StdSource};
+use std::{env, io};
+
+/// The variable that names the address to listen on, in place of 127.0.0.1.
+const BIND: &str = "DFLYD_BIND";
+
+/// An address that can't be read.
+const WRONG: u8 = 2;
 
 /// Want of memory before the run.
 const NO_MEMORY: u8 = 4;
+
+/// The system has no sockets for the door.
+const NO_DOOR: u8 = 6;
 
 fn main(rt: HostRuntime) -> ExitCode {
     let alloc = rt.alloc();
     let Ok(words) = words_given(&rt) else {
         return ExitCode::from(NO_MEMORY);
     };
-    let input = StdSource::new(rt.stdin());
     let disk = MemDisk::new(alloc, None, Vec::new(alloc));
     let out = StdSink::new(rt.stdout());
-    let (status, _, _, _) = offline(alloc, words.as_slice(), input, disk, out);
-    ExitCode::from(status)
+    if !asks_to_serve(words.as_slice()) {
+        let input = StdSource::new(rt.stdin());
+        let (status, _, _, _) = offline(alloc, words.as_slice(), input, disk, out);
+        return ExitCode::from(status);
+    }
+    let address = match address_given(&rt) {
+        Ok(address) => address,
+        Err(status) => return ExitCode::from(status),
+    };
+    let door = match MioDoor::new(rt, alloc, address) {
+        Ok(door) => door,
+        Err(fault) => return ExitCode::from(tell_no_door(&rt, &fault)),
+    };
+    let ended = serve(&rt, alloc, words.as_slice(), door, disk, out);
+    if ended.status == NO_DOOR
+        && let Some(reason) = ended.door.reason()
+    {
+        tell_fault(&rt, ended.bound, ended.door.address(), reason);
+    }
+    ExitCode::from(ended.status)
 }
 
 /// The words after the program's name. Where one isn't UTF-8 there are none, so that the answer is the
@@ -35,4 +60,44 @@ fn words_given(rt: &(impl Env + AllocGlobal)) -> Result<Vec<String>, AllocError>
         Err(fault) if fault.kind() == ErrorKind::OutOfMemory => Err(AllocError),
         Err(_) => Ok(Vec::new(rt.alloc())),
     }
+}
+
+/// Whether the first word is `serve`. All others go to `offline`, which has the usage line.
+fn asks_to_serve(words: &[String]) -> bool {
+    match words.first() {
+        Some(word) => word.as_str() == "serve",
+        None => false,
+    }
+}
+
+/// The address to listen on, or the status where it can't be read.
+fn address_given(rt: &(impl Env + Eprint + AllocGlobal)) -> Result<IpAddr, u8> {
+    let text = match env::var(rt, BIND) {
+        Ok(text) => text,
+        Err(VarError::NotPresent) => return Ok(IpAddr::V4(Ipv4Addr::LOCALHOST)),
+        Err(VarError::NotUnicode) => String::new(rt.alloc()),
+        Err(VarError::OutOfMemory) => return Err(NO_MEMORY),
+    };
+    match text.as_str().parse::<IpAddr>() {
+        Ok(address) => Ok(address),
+        Err(_) => {
+            let _ = eprintln!(rt; "dflyd: {BIND} is no IPv4 or IPv6 address");
+            Err(WRONG)
+        }
+    }
+}
+
+/// Says that there are no sockets; answers the status. A line that can't be written is left out.
+fn tell_no_door(rt: &impl Eprint, fault: &io::Error) -> u8 {
+    if fault.kind() == ErrorKind::OutOfMemory {
+        return NO_MEMORY;
+    }
+    let _ = eprintln!(rt; "dflyd: no sockets: {}", fault.kind());
+    NO_DOOR
+}
+
+/// Says why the door failed, before it was bound or later.
+fn tell_fault(rt: &impl Eprint, bound: bool, address: SocketAddr, reason: ErrorKind) {
+    let what = if bound { "accept on" } else { "listen on" };
+    let _ = eprintln!(rt; "dflyd: can't {what} {address}: {reason}");
 }

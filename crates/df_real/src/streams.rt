@@ -4,13 +4,11 @@
 //! of each answer: a fault is counted before it is answered, and End is answered from then on.
 
 ghost use Rattle.std.specs.Prelude.{◌≡◌, ◌≤◌, None, false, IfOk};
-ghost use Rattle.std.specs.Io.{ReadsAtMost, WritesAtMost};
-ghost use Rattle.std.specs.Io.KnownBytes.{ReadConsumes, WriteAppends};
 ghost use Rattle.df_outside.specs.Streams.{Inflow, Outflow};
 
+use crate::again::{read_again, write_again};
 use df_outside::{Got, Put, Sink, Source};
-use std::io;
-use std::io::{ErrorKind, Read, Write};
+use std::io::{Read, Write};
 
 /// A source over a reader, which it asks no more once that gave 0 bytes.
 #[derive(Drop)]
@@ -88,37 +86,11 @@ impl<W: Write + Drop> Sink for StdSink<W> {
     }
 }
 
-/// Reads once, and again where a signal cut the read short before a byte came.
-fn read_again<R: Read>(reader: &mut R, buf: &mut [u8]) -> io::Result<usize>
-    ensures bound { ReadsAtMost result buf.new }
-    ensures bytes { ReadConsumes (R.remaining reader.old) (R.remaining reader.new) result buf.new }
-{
-    'tries: for _ in 0..u64::MAX {
-        match reader.read(buf) {
-            Err(fault) if fault.kind() == ErrorKind::Interrupted => {}
-            answer => return answer,
-        }
-    }
-    Err(io::Error::from(ErrorKind::Interrupted))
-}
-
-/// Writes once, and again where a signal cut the write short before a byte went.
-fn write_again<W: Write>(writer: &mut W, piece: &[u8]) -> io::Result<usize>
-    ensures bound { WritesAtMost result piece.now }
-    ensures bytes { WriteAppends (W.contents writer.old) (W.contents writer.new) result piece.now }
-{
-    'tries: for _ in 0..u64::MAX {
-        match writer.write(piece) {
-            Err(fault) if fault.kind() == ErrorKind::Interrupted => {}
-            answer => return answer,
-        }
-    }
-    Err(io::Error::from(ErrorKind::Interrupted))
-}
-
 #[cfg(test)]
 mod tests {
     use super::*;
+    use std::io;
+    use std::io::ErrorKind;
 
     /// Answers each call by the next of its list, a count of bytes or an error, and at its end by 0 bytes.
     #[derive(Drop)]

@@ -1,6 +1,6 @@
 -- A read that a signal cut short takes nothing.
 use Rattle.std.specs.Io.KnownBytes.{Keeps}
-use Rattle.dflyd.proofs.streams.read_again.Given as goal
+use Rattle.df_real.proofs.again.read_again.Given as goal
 
 abbrev pub invariant-tries : goal.invariant-tries
 invariant-tries g l = Keeps (g.R.Read.remaining l.initial.reader) (g.R.Read.remaining l.reader)

@@ -1,6 +1,6 @@
 -- A write that a signal cut short adds nothing.
 use Rattle.std.specs.Io.KnownBytes.{Keeps}
-use Rattle.dflyd.proofs.streams.write_again.Given as goal
+use Rattle.df_real.proofs.again.write_again.Given as goal
 
 abbrev pub invariant-tries : goal.invariant-tries
 invariant-tries g l = Keeps (g.W.Write.contents l.initial.writer) (g.W.Write.contents l.writer)
