@@ -1,0 +1,11 @@
+pub mod WalkLaws
+pub mod SpeakLaws
+pub mod TakeLaws
+pub mod FlowLaws
+pub mod TurnLaws
+pub mod RequestLaws
+pub mod LinkLaws
+pub mod CallLaws
+pub mod RestLaws
+pub mod StartLaws
+pub mod WorkLaws
