@@ -1,0 +1,18 @@
+use Rattle.std.proofs.Common.{◌≡◌, ap, subst, ◌∙◌}
+use Rattle.df_model.specs.Meaning.{meaning}
+use Rattle.df_table.specs.Responses.{Gives}
+use Rattle.df_desk.specs.Parts.{marks_of}
+use Rattle.df_desk.specs.Replies.{told_on}
+use Rattle.df_desk.proofs.OutcomeLaws.{single_given}
+use Rattle.df_desk.proofs.place.run_single.Goals as goal
+
+pub returns-in-Ok : goal.returns-in-Ok
+returns-in-Ok c =
+    let K = c.args.table.now.keys in
+    let call = c.args.call.value in
+    let marks = marks_of c.of.result.value.items in
+    let after = c.run_command.new.table.keys in
+    let reply = c.run_command.new.out.items in
+    let ran : c.new.result ≡ told_on call marks K = c.new.ensures ∙ ap (λ t. told_on call marks t.keys) c.of-before.ensures in
+    single_given call c.args.command marks K after c.new.result reply c.requires.call ran
+    (subst (λ o. Gives (meaning c.args.command K) after o reply) c.requires.empty c.in-Ok.ensures.ok)

@@ -1,0 +1,7 @@
+pub mod Replies
+pub mod Parts
+pub mod Answered
+pub mod States
+pub mod Desks
+pub mod OneTable
+pub mod Runs

@@ -1,0 +1,5 @@
+pub mod SeatLaws
+pub mod ListLaws
+pub mod SessionLaws
+pub mod EntryLaws
+pub mod EndLaws
