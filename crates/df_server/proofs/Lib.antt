@@ -1,7 +1,5 @@
-pub mod AnswerLaws
-pub mod EndLaws
-pub mod FeedLaws
-pub mod RunLaws
-pub mod ServedLaws
-pub mod TurnLaws
 pub mod WriteLaws
+pub mod AloneLaws
+pub mod PipeLaws
+pub mod ServeLaws
+pub mod WordsLaws

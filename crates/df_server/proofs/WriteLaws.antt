@@ -4,9 +4,8 @@ use Rattle.std.specs.Io.KnownBytes.{Appends}
 use Rattle.std.proofs.lemmas.Grind.{common_steps}
 use Rattle.std.proofs.KnownBytes.{Appends-nil, Appends-trans}
 use Rattle.df_model.specs.Values.{Bytes}
-use Rattle.df_outside.specs.Faults.{Rose}
 use Rattle.df_outside.specs.Streams.{Outflow}
-use Rattle.df_server.specs.Promise.{WroteFront}
+use Rattle.df_server.specs.Writes.{WroteFront}
 
 -- all of the piece but this rest was written
 pub record WroteBut (piece rest : Bytes) (before now : Outflow) : Type 0 where
@@ -43,7 +42,3 @@ wrote_front piece rest before middle now w none = record {
 -- what a slice up to its end leaves
 pub whole_rest : (count : ℕ) (bytes : Bytes) → take (length bytes - count) (drop count bytes) ≡ drop count bytes
 whole_rest count bytes = grind (arith, common_steps)
-
--- a count that rose at last rose since the start
-pub rose_since : (start before now : ℕ) → start ≤ before → Rose before now → Rose start now
-rose_since start before now le rose = omega arith

@@ -1,4 +1,4 @@
-pub mod Answers
-pub mod Pipe
+pub mod Writes
 pub mod Promise
-pub mod Serving
+pub mod Alone
+pub mod Serve

@@ -13,6 +13,7 @@ use Rattle.df_model.specs.declared.session.Why.{Why}
 use Rattle.df_model.specs.declared.session.Why.TheVariants as ends
 use Rattle.df_outside.specs.Faults.{Rose}
 use Rattle.df_outside.specs.Streams.{Inflow, Outflow}
+use Rattle.df_server.specs.Writes.{WroteFront}
 
 -- a run as it is seen from outside: its status, and its input and output before and after it
 pub record Run : Type 0 where
@@ -30,13 +31,6 @@ IsPipe words = words ≡ codes "pipe" ∷ []
 abbrev pub usage : Bytes
 usage = codes "usage: dflyd serve, pipe, check FILE or gen SEED COUNT" ++ 10 ∷ []
 
--- a front of the bytes was written
-pub record WroteFront (bytes : Bytes) (before now : Outflow) : Type 0 where
-  pub wrote : Bytes
-  pub unsent : Bytes
-  pub front : bytes ≡ wrote ++ unsent
-  pub written : Appends before.written now.written wrote
-
 -- Other words: nothing is taken. The usage line is written, whole at status 2 unless a write of it failed.
 abbrev pub UsageGiven : Run → Type 0
 UsageGiven run =
@@ -44,6 +38,13 @@ UsageGiven run =
     × (((run.status ≡ 2) × Appends run.output_before.written run.output.written usage)
     ⊎ ((run.status ≡ 2) × WroteFront usage run.output_before run.output × Rose run.output_before.faults run.output.faults)
     ⊎ ((run.status ≡ 4) × WroteFront usage run.output_before run.output))
+
+-- the usage line was written as far as the status says
+abbrev pub UsageStatus : ℕ → Outflow → Outflow → Type 0
+UsageStatus status before now =
+    ((status ≡ 2) × Appends before.written now.written usage)
+    ⊎ ((status ≡ 2) × WroteFront usage before now × Rose before.faults now.faults)
+    ⊎ ((status ≡ 4) × WroteFront usage before now)
 
 -- ---- the session
 

@@ -1,12 +1,11 @@
 //! The server: the words of the command line, and one session over a source and a sink.
 #![tactic(auto)]
 
-mod controls;
 mod pipe;
 mod program;
-mod session;
+mod serve_words;
+mod server;
+mod write;
 
 pub use program::offline;
-
-#[cfg(test)]
-mod tests;
+pub use server::{Ended, serve};

@@ -1,10 +1,10 @@
 //! The calls of the program that wait for nobody.
 
 ghost use Rattle.std.specs.Prelude.{◌≡◌, map, string_bytes, IsTrue, ◌↔◌};
-ghost use Rattle.df_server.specs.Promise.{Run, IsPipe, UsageGiven, PipePromise};
-ghost use Rattle.df_server.specs.Pipe.{UsageStatus};
+ghost use Rattle.df_server.specs.Promise.{Run, IsPipe, UsageGiven, PipePromise, UsageStatus};
 
-use crate::pipe::{self, Written};
+use crate::pipe;
+use crate::write::{Written, write_all};
 use df_outside::{Disk, Sink, Source};
 use std::alloc::Global;
 
@@ -16,7 +16,7 @@ const USAGE: &[u8] = b"usage: dflyd serve, pipe, check FILE or gen SEED COUNT\n"
 ///
 /// Status 0: the input ended. 1: the input is bad. 2: the words are no command. 4: memory ran out
 /// outside a reply. 7: a read failed. 8: a write failed. 9: the limit of input was reached.
-pub fn offline<S: Source, K: Disk, O: Sink>(
+pub fn offline<S: Source + Send, K: Disk, O: Sink + Send>(
     alloc: Global,
     words: &[String],
     input: S,
@@ -30,14 +30,14 @@ pub fn offline<S: Source, K: Disk, O: Sink>(
     // No command that is built touches the disk.
     ensures disk { result.2 ≡ disk }
 {
-    let mut input = input;
-    let mut out = out;
-    let status = if is_pipe(words) {
-        pipe::run(alloc, &mut input, &mut out).status()
+    if is_pipe(words) {
+        let (status, input, out) = pipe::run(alloc, input, out);
+        (status, input, disk, out)
     } else {
-        refuse(&mut out)
-    };
-    (status, input, disk, out)
+        let mut out = out;
+        let status = refuse(&mut out);
+        (status, input, disk, out)
+    }
 }
 
 /// Whether the words are the one word `pipe`.
@@ -51,10 +51,10 @@ fn is_pipe(words: &[String]) -> bool
 }
 
 /// Writes the usage line; answers the status.
-fn refuse<O: Sink>(out: &mut O) -> u8
+pub(crate) fn refuse<O: Sink>(out: &mut O) -> u8
     ensures { UsageStatus result (O.outflow out.old) (O.outflow out.new) }
 {
-    match pipe::write_all(USAGE, out) {
+    match write_all(USAGE, out) {
         Written::Whole | Written::Failed => 2,
         Written::NoMemory => 4,
     }
