@@ -10,5 +10,4 @@ pub mod Opens
 pub mod Ending
 pub mod Showing
 pub mod Taking
-pub mod Running
 mod Deals

@@ -9,4 +9,3 @@ pub mod Rule
 pub mod Steps
 pub mod Deals
 pub mod Taken
-pub mod Runs

@@ -17,6 +17,3 @@ pub use book::Book;
 pub use closing::Closed;
 pub use draw::Draw;
 pub use passes::{CallerPass, Receipt, ShardPass, Ticket};
-
-#[cfg(test)]
-mod tests;

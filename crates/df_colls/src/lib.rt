@@ -11,8 +11,6 @@ mod entries;
 mod hash;
 mod set;
 mod sums;
-#[cfg(test)]
-mod tests;
 
 pub use hash::HashVal;
 pub use set::SetVal;

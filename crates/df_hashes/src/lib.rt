@@ -8,8 +8,6 @@ mod commands;
 mod count;
 mod listing;
 mod look;
-#[cfg(test)]
-mod tests;
 mod write;
 
 pub use commands::prepare;

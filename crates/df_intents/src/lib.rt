@@ -6,8 +6,6 @@ mod grant;
 mod index;
 mod intents;
 mod search;
-#[cfg(test)]
-mod tests;
 mod trail;
 
 pub use grant::Grant;

@@ -3,7 +3,5 @@
 
 mod list_val;
 mod removal;
-#[cfg(test)]
-mod tests;
 
 pub use list_val::ListVal;

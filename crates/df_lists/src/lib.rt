@@ -12,7 +12,5 @@ mod pop;
 mod push;
 mod removal;
 mod resize;
-#[cfg(test)]
-mod tests;
 
 pub use dispatch::prepare;

@@ -12,8 +12,6 @@ mod input;
 pub mod laws;
 mod limits;
 mod reader;
-#[cfg(test)]
-mod tests;
 
 pub use encoder::{
     encode, encode_array_head, encode_bulk, encode_count, encode_error, encode_int, encode_null,

@@ -11,8 +11,6 @@ mod count;
 mod fold;
 mod look;
 mod remove;
-#[cfg(test)]
-mod tests;
 
 pub use combination::Combine;
 pub use commands::prepare;

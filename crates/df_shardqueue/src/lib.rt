@@ -11,6 +11,3 @@ mod view;
 pub use lane::Lane;
 pub use marked::Marked;
 pub use queue::{QueuePass, ShardQueue, queue_like};
-
-#[cfg(test)]
-mod tests;

@@ -8,7 +8,5 @@ mod counter;
 mod dispatch;
 mod part;
 mod set;
-#[cfg(test)]
-mod tests;
 
 pub use dispatch::prepare;

@@ -19,6 +19,3 @@ pub use many::run_many;
 pub use one::Fate;
 pub use table::Table;
 pub use whole::run_whole;
-
-#[cfg(test)]
-mod tests;

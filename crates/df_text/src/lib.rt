@@ -11,8 +11,6 @@ mod name;
 mod number;
 mod pattern;
 mod ranges;
-#[cfg(test)]
-mod tests;
 
 pub use hash::{fnv64, shard_of};
 pub use name::is_name;

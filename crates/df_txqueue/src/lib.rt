@@ -3,8 +3,6 @@
 
 mod place;
 mod queue;
-#[cfg(test)]
-mod tests;
 
 pub use place::Place;
 pub use queue::TxQueue;

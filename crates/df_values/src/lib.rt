@@ -12,8 +12,6 @@ mod replies;
 mod rest;
 mod short;
 mod string;
-#[cfg(test)]
-mod tests;
 mod value;
 
 pub use change::{Change, Prepared};

@@ -1,4 +1,0 @@
-use Rattle.df_book.proofs.tests.entry_of.Goals as goal
-
-pub returns : goal.returns
-returns c = let e = c.new.ensures in (λ i. record { number = e.0 i; hop = e.1 i; act = e.2 i; told = e.3 i })

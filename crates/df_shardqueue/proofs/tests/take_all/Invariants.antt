@@ -1,5 +1,0 @@
-use Rattle.std.proofs.Common.{◌≡◌}
-use Rattle.df_shardqueue.proofs.tests.take_all.Given as goal
-
-abbrev pub invariant-slots : goal.invariant-slots
-invariant-slots g l = l.lane ≡ l.fn.lane

@@ -1,0 +1,9 @@
+//! Tests of what lies outside, one object at a time, each through its trait. There is nothing to call.
+#![tactic(auto)]
+
+#[cfg(test)]
+mod connections;
+#[cfg(test)]
+mod memory;
+#[cfg(test)]
+mod sockets;
