@@ -1,5 +1,6 @@
 pub mod FramingLaws
 pub mod LocalityLaws
+pub mod StringLaws
 mod WordLaws
 pub mod CallLaws
 pub mod WholeLaws

@@ -1,4 +1,5 @@
 pub mod Spared
+pub mod Bodies
 pub mod formers
 pub mod Values
 pub mod Writes

@@ -5,10 +5,12 @@ ghost use Rattle.std.specs.Ordering.{nat_cmp};
 ghost use Rattle.std.specs.Cmp.Lexicographic.{pointwise, slice_cmp, nat_list_eq_equiv, nat_list_cmp_total, texts_ties, texts_po};
 ghost use Rattle.std.specs.Cmp.{partial_equiv_from_equiv};
 
+use crate::Text;
 use std::alloc::{AllocError, AllocFailed, Global};
 use std::cmp::Ordering;
 use std::hash::{Hash, Hasher};
 use std::marker::Model;
+use std::mem;
 
 /// Memory ran out. A call that answers it leaves what it was lent as before, unless its page says
 /// otherwise.
@@ -28,10 +30,10 @@ impl<T: Drop> From<AllocFailed<T>> for NoMemory {
 }
 
 /// A byte string: a key, a word of a request, a stored string. Contracts see its list of bytes,
-/// and its order and equality are those of the bytes.
+/// and its order and equality are those of the bytes. Up to `IN_PLACE` bytes have no memory of their own.
 #[derive(Debug, Drop)]
 pub struct Bin {
-    bytes: Vec<u8>,
+    text: Text,
 }
 
 impl Model for Bin {
@@ -39,51 +41,68 @@ impl Model for Bin {
 
     ghost Value = { List ℕ };
 
-    ghost view = { λ b. b.bytes.items };
+    ghost view = { λ b. b.text.items };
 }
 
 impl Bin {
+    /// No bytes. Takes no memory.
+    pub fn new() -> Bin
+        ensures { result ≡ [] }
+    {
+        Bin { text: Text::new() }
+    }
+
     /// A copy of the bytes.
     pub fn from_slice(alloc: Global, bytes: &[u8]) -> Result<Bin, NoMemory>
         ensures { IfOk result (λ b. b ≡ bytes.now) }
     {
-        let bytes = Vec::from_slice(alloc, bytes)?;
-        Ok(Bin { bytes })
+        let text = Text::from_slice(alloc, bytes)?;
+        Ok(Bin { text })
     }
 
-    /// Takes no memory.
+    /// The vector's bytes. Where they fit in place, its memory is freed. Takes no memory.
     pub fn from_vec(bytes: Vec<u8>) -> Bin
         ensures { result ≡ bytes.items }
     {
-        Bin { bytes }
+        Bin {
+            text: Text::from_vec(bytes),
+        }
     }
 
-    /// Takes no memory.
-    pub fn into_vec(self) -> Vec<u8>
+    /// The bytes with what room there is for more. Takes no memory.
+    pub fn into_text(self) -> Text
         ensures { result.items ≡ self }
     {
-        self.bytes
+        self.text
+    }
+
+    /// Moves the bytes out, so that none are left. Takes no memory.
+    pub fn take(&mut self) -> Bin
+        ensures taken { result ≡ self.old }
+        ensures left { self.new ≡ [] }
+    {
+        mem::replace(self, Bin::new())
     }
 
     /// The bytes, lent.
     pub fn as_slice(&self) -> &[u8]
         ensures { result.now ≡ self.now }
     {
-        self.bytes.as_slice()
+        self.text.as_slice()
     }
 
     /// How many bytes there are.
     pub fn len(&self) -> usize
         ensures { result ≡ length self.now }
     {
-        self.bytes.len()
+        self.text.len()
     }
 
     /// Whether there are none.
     pub fn is_empty(&self) -> bool
         ensures { IsTrue result ↔ (self.now ≡ []) }
     {
-        self.bytes.is_empty()
+        self.text.is_empty()
     }
 
     /// The same bytes in memory of their own.

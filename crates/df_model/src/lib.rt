@@ -12,6 +12,7 @@ pub mod laws;
 mod reply;
 mod reserved;
 mod session;
+mod text;
 
 pub use bin::{Bin, NoMemory};
 pub use command::{
@@ -21,3 +22,4 @@ pub use keys::{KeyModes, Keys, Mode};
 pub use reply::{ErrorText, Replies, Reply};
 pub use reserved::{Bins, Pairs, Reserved};
 pub use session::{BadKind, SessionEnd, Turn, Why};
+pub use text::{IN_PLACE, Text};

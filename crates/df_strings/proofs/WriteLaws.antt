@@ -4,7 +4,7 @@ use Rattle.std.proofs.Common.{◌≡◌, ℕ, ◌+◌, ◌-◌, ◌≤◌, lengt
 use Rattle.std.proofs.lemmas.Slice.{between-put_mid}
 use Rattle.df_model.specs.Values.{Bytes}
 use Rattle.df_model.specs.Meaning.Strings.{overwritten}
-use Rattle.df_values.proofs.StringLaws.{overwritten_within}
+use Rattle.df_model.proofs.StringLaws.{overwritten_within}
 
 pub stands : (at : ℕ) (new old : Bytes) → at + length new ≤ length old → mid_of at (at + length new - at) old ≡ new → overwritten at new old ≡ old
 stands at new old h same =

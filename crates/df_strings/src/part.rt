@@ -41,7 +41,7 @@ pub fn append(alloc: Global, more: Bin, text: &mut StrVal) -> Result<Prepared, N
     if more.is_empty() {
         return Ok(Prepared::keep(reply));
     }
-    text.reserve(more.len())?;
+    text.reserve(alloc, more.len())?;
     Ok(Prepared {
         reply,
         change: Change::Edit(Edit::Append(more)),
@@ -88,8 +88,8 @@ pub fn setrange_missing(alloc: Global, at: i64, bytes: Bin) -> Result<Prepared, 
     if is_too_long(at, bytes.len()) {
         return Prepared::refuse(alloc, &ErrorText::TooLong);
     }
-    let mut text = StrVal::new(alloc);
-    text.reserve(at + bytes.len())?;
+    let mut text = StrVal::new();
+    text.reserve(alloc, at + bytes.len())?;
     text.write_at(at, bytes.as_slice());
     Ok(Prepared {
         reply: Pieces::of_count(alloc, text.len())?,
@@ -124,7 +124,7 @@ fn write(alloc: Global, at: usize, bytes: Bin, text: &mut StrVal) -> Result<Prep
     if stands_at(text.as_slice(), at, bytes.as_slice()) {
         return Ok(Prepared::keep(reply));
     }
-    text.reserve((at + bytes.len()).saturating_sub(text.len()))?;
+    text.reserve(alloc, (at + bytes.len()).saturating_sub(text.len()))?;
     Ok(Prepared {
         reply,
         change: Change::Edit(Edit::WriteAt(at as u64, bytes)),

@@ -193,7 +193,7 @@ fn removals(rt: HostRuntime) -> Result<(), NoMemory> {
 
 #[test]
 fn a_string_is_no_list(rt: HostRuntime) -> Result<(), NoMemory> {
-    let mut value = Value::Str(StrVal::new(rt.alloc()));
+    let mut value = Value::Str(StrVal::new());
     let prepared = prepare(rt.alloc(), OneOp::Llen, Some(&mut value))?;
     assert_eq!(rt;
         prepared.reply.run(0),

@@ -59,7 +59,7 @@ fn held(alloc: Global, text: &[u8]) -> Result<Option<Value>, NoMemory> {
         return Ok(None);
     }
     if text[0] == b'"' {
-        return Ok(Some(Value::Str(StrVal::new(alloc))));
+        return Ok(Some(Value::Str(StrVal::new())));
     }
     Ok(Some(Value::Set(set(alloc, text)?)))
 }

@@ -1,6 +1,6 @@
 //! The hash of a key and the shard on which the key stands: FNV-1a of 64 bits (Fowler, Noll and Vo).
 
-ghost use Rattle.std.specs.Prelude.{◌≡◌, ◌≢◌};
+ghost use Rattle.std.specs.Prelude.{◌≡◌, ◌≢◌, ◌%◌};
 ghost use Rattle.df_model.specs.Hash as hashes;
 
 /// The hash of no bytes.
@@ -25,5 +25,13 @@ pub fn shard_of(key: &[u8], shards: u32) -> u32
     requires { shards ≢ 0 }
     ensures { result ≡ hashes.shard_of key.now shards }
 {
-    (fnv64(key) % u64::from(shards)) as u32
+    shard_at(fnv64(key), shards)
+}
+
+/// The shard on which a key of this hash stands, from 0: for a caller that has hashed the key already.
+pub fn shard_at(hash: u64, shards: u32) -> u32
+    requires { shards ≢ 0 }
+    ensures { result ≡ hash % shards }
+{
+    (hash % u64::from(shards)) as u32
 }

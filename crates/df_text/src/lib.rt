@@ -12,7 +12,7 @@ mod number;
 mod pattern;
 mod ranges;
 
-pub use hash::{fnv64, shard_of};
+pub use hash::{fnv64, shard_at, shard_of};
 pub use name::is_name;
 pub use number::{parse_i64, parse_u64, push_i64};
 pub use pattern::glob;

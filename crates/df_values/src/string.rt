@@ -1,20 +1,21 @@
 //! The value of a string: bytes, and room for more.
 
-ghost use Rattle.std.specs.Prelude.{◌≡◌, ◌+◌, ◌≤◌, ◌++◌, [], length, vec_len, vec_capacity, IfOk, IsTrue, ◌↔◌, OnOk};
+ghost use Rattle.std.specs.Prelude.{◌≡◌, ◌+◌, ◌≤◌, ◌++◌, [], length, IfOk, IsTrue, ◌↔◌, OnOk};
 ghost use Rattle.df_model.specs.Meaning.Strings.{overwritten};
 
-use df_model::{Bin, NoMemory};
+use df_model::{Bin, NoMemory, Text};
 use std::alloc::Global;
 use std::marker::Model;
 
-/// A byte string, and room for further bytes. Contracts see the bytes and for how many more there is room.
+/// A byte string, and room for further bytes: a short one stands in place. Contracts see the bytes and for how
+/// many more there is room.
 #[derive(Debug, Drop)]
 pub struct StrVal {
-    bytes: Vec<u8>,
+    text: Text,
 }
 
 impl Model for StrVal {
-    ghost use Rattle.std.specs.Prelude.{ℕ, ◌-◌, vec_len, vec_capacity};
+    ghost use Rattle.std.specs.Prelude.{ℕ};
     ghost use Rattle.std.specs.Coded.{coded_ℕ};
     ghost use Rattle.df_model.specs.Spared.{Spared, spared_code};
 
@@ -22,25 +23,23 @@ impl Model for StrVal {
 
     ghost coded = { spared_code coded_ℕ };
 
-    ghost view = { λ s. record { items = s.bytes.items; spare = vec_capacity s.bytes - vec_len s.bytes } };
+    ghost view = { λ s. s.text };
 }
 
 impl StrVal {
     /// The empty string. Takes no memory.
-    pub fn new(alloc: Global) -> StrVal
+    pub fn new() -> StrVal
         ensures { result.items ≡ [] }
     {
-        StrVal {
-            bytes: Vec::new(alloc),
-        }
+        StrVal { text: Text::new() }
     }
 
-    /// Takes no memory.
+    /// The bytes of a key or a word. Takes no memory.
     pub fn from_bin(bin: Bin) -> StrVal
         ensures { result.items ≡ bin }
     {
         StrVal {
-            bytes: bin.into_vec(),
+            text: bin.into_text(),
         }
     }
 
@@ -48,32 +47,31 @@ impl StrVal {
     pub fn as_slice(&self) -> &[u8]
         ensures { result.now ≡ self.now.items }
     {
-        self.bytes.as_slice()
+        self.text.as_slice()
     }
 
     /// How many bytes there are.
     pub fn len(&self) -> usize
         ensures { result ≡ length self.now.items }
     {
-        self.bytes.len()
+        self.text.len()
     }
 
     /// Whether there are none.
     pub fn is_empty(&self) -> bool
         ensures { IsTrue result ↔ (self.now.items ≡ []) }
     {
-        self.bytes.is_empty()
+        self.text.is_empty()
     }
 
     /// Makes room for `count` bytes more, and for some beyond, so that a string which grows byte by byte is
     /// seldom moved.
-    pub fn reserve(&mut self, count: usize) -> Result<(), NoMemory>
+    pub fn reserve(&mut self, alloc: Global, count: usize) -> Result<(), NoMemory>
         ensures items { self.new.items ≡ self.old.items }
         ensures spare { self.old.spare ≤ self.new.spare }
         ensures ok { OnOk result (count ≤ self.new.spare) }
     {
-        self.bytes.reserve(count)?;
-        Ok(())
+        self.text.reserve(alloc, count)
     }
 
     /// Adds bytes at the end. Takes no memory.
@@ -82,10 +80,7 @@ impl StrVal {
         ensures items { self.new.items ≡ self.old.items ++ more.now }
         ensures spare { self.old.spare ≤ self.new.spare + length more.now }
     {
-        match self.bytes.extend_from_slice(more) {
-            Ok(()) => {}
-            Err(_) => unreachable!(),
-        }
+        self.text.append(more)
     }
 
     /// Writes bytes over those from this place on; zero bytes fill up to it. Takes no memory.
@@ -93,44 +88,15 @@ impl StrVal {
         requires { at + length new.now ≤ length self.old.items + self.old.spare }
         ensures { self.new.items ≡ overwritten at new.now self.old.items }
     {
-        let len = self.bytes.len();
-        if at <= len && new.len() <= len - at {
-            write_within(&mut self.bytes, at, new);
-        } else {
-            write_past(&mut self.bytes, at, new);
-        }
+        self.text.write_at(at, new)
     }
 
     /// The same bytes in memory of their own.
     pub fn copy(&self, alloc: Global) -> Result<StrVal, NoMemory>
         ensures { IfOk result (λ copy. copy.items ≡ self.now.items) }
     {
-        let bytes = Vec::from_slice(alloc, self.bytes.as_slice())?;
-        Ok(StrVal { bytes })
-    }
-}
-
-/// Over bytes that are there.
-fn write_within(bytes: &mut [u8], at: usize, new: &[u8])
-    requires { at + length new.now ≤ length bytes.old }
-    ensures { bytes.new ≡ overwritten at new.now bytes.old }
-{
-    let end = at + new.len();
-    bytes[at..end].copy_from_slice(new);
-}
-
-/// To the end, and past it.
-fn write_past(bytes: &mut Vec<u8>, at: usize, new: &[u8])
-    requires past { vec_len bytes.old ≤ at + length new.now }
-    requires room { at + length new.now ≤ vec_capacity bytes.old }
-    ensures { bytes.new.items ≡ overwritten at new.now bytes.old.items }
-{
-    match bytes.resize(at, 0) {
-        Ok(()) => {}
-        Err(_) => unreachable!(),
-    }
-    match bytes.extend_from_slice(new) {
-        Ok(()) => {}
-        Err(_) => unreachable!(),
+        Ok(StrVal {
+            text: self.text.copy(alloc)?,
+        })
     }
 }

@@ -1,7 +1,7 @@
 -- Bytes that are written over others.
 use borrow.Rule.Slice.PartMut.{put_mid, Post-is}
 use Rattle.std.proofs.Common.{◌≡◌, ℕ, ◌+◌, ◌-◌, ◌≤◌, [], ◌++◌, length, take, drop, replicate, sym, ap, ◌∙◌, append_assoc, append-nil, arith, length-append, ◌⊎◌, inl, inr}
-use Rattle.std.proofs.lemmas.List.{take_all, drop_all, length-replicate}
+use Rattle.std.proofs.lemmas.List.{take_all, drop_all, length-replicate, length-take}
 use Rattle.df_model.specs.Values.{Bytes}
 use Rattle.df_model.specs.Meaning.Strings.{overwritten}
 
@@ -40,3 +40,17 @@ overwritten_past at new old cut written h is_cut is_written =
     ∙ ap (λ x. x ++ new) (is_cut ∙ sym (filled at old (either at (length old))))
     ∙ sym (append-nil (take at (old ++ zeros (at - length old)) ++ new))
     ∙ ap (λ x. (take at (old ++ zeros (at - length old)) ++ new) ++ x) (sym (drop_all (at + length new) old h))
+
+-- a front that is cut, filled up to its length and written behind
+still_missing : (at : ℕ) (old : Bytes) → (at ≤ length old) ⊎ (length old ≤ at) → at - length (take at old) ≡ at - length old
+still_missing at old (inl h) = let cut : length (take at old) ≡ at = grind (arith, length-take at old) in omega (arith, cut)
+still_missing at old (inr h) = ap (λ x. at - length x) (take_all at old h)
+
+pub overwritten_parts : (at : ℕ) (new old front padded joined all : Bytes) → front ≡ take at old → padded ≡ front ++ zeros (at - length front) → joined ≡ padded ++ new → all ≡ joined ++ drop (at + length new) old → all ≡ overwritten at new old
+overwritten_parts at new old front padded joined all is_front is_padded is_joined is_all =
+    is_all
+    ∙ ap (λ x. x ++ drop (at + length new) old) is_joined
+    ∙ ap (λ x. (x ++ new) ++ drop (at + length new) old)
+    (is_padded ∙ ap (λ x. x ++ zeros (at - length x)) is_front
+    ∙ ap (λ n. take at old ++ zeros n) (still_missing at old (either at (length old)))
+    ∙ sym (filled at old (either at (length old))))
