@@ -1,9 +1,10 @@
 //! The bytes of a reply.
 //!
-//! A short reply stands in place, so that most replies take no memory. What finds no room there goes to one
-//! buffer that grows, and a large byte string that is moved in is never copied.
+//! A short reply stands in place, so that most replies take no memory. A longer one goes to one buffer that grows,
+//! and a large byte string that is moved in is never copied. A connection clears its reply for the next call and
+//! keeps the room.
 
-ghost use Rattle.std.specs.Prelude.{◌≡◌, ◌++◌, ◌<◌, [], drop, length, OnOk, OnErr};
+ghost use Rattle.std.specs.Prelude.{◌≡◌, ◌++◌, ◌<◌, [], drop, length, IfOk, OnOk, OnErr};
 ghost use Rattle.df_colls.specs.Runs.{IsFront};
 
 use crate::rest::Rest;
@@ -11,24 +12,46 @@ use crate::short::Short;
 use df_model::{Bin, NoMemory};
 use std::alloc::Global;
 use std::marker::Model;
+use std::mem;
+
+/// Where the bytes lie: in place while they find room there, else all in buffers.
+#[derive(Debug, Drop)]
+pub(crate) enum Body {
+    Here(Short, Global),
+    Away(Rest),
+}
 
 /// An encoded reply. Contracts see its bytes.
-#[derive(Debug, Drop)]
+#[derive(Debug)]
 pub struct Pieces {
-    pub(crate) short: Short,
-    pub(crate) rest: Rest,
+    pub(crate) body: Body,
 }
+
+/// A line of a processor's cache.
+const _: () = prove!(mem::size_of::<Pieces>() <= 64);
 
 /// A byte string that is moved in stays a buffer of its own from this length on; a shorter one is cheaper to
 /// copy.
 const LARGE: usize = 1024;
 
+/// A call of its own, so that whoever drops a reply has one way on and not two.
+impl Drop for Pieces {
+    fn drop(self) {
+        let Pieces { body } = self;
+        match body {
+            Body::Here(_, _) => {}
+            Body::Away(_) => {}
+        }
+    }
+}
+
 impl Model for Pieces {
-    ghost use Rattle.std.specs.Prelude.{List, ℕ, ◌++◌};
+    ghost use Rattle.std.specs.Prelude.{List, ℕ};
+    ghost use Rattle.df_values.specs.Bodies.{bytes_in};
 
     ghost Value = { List ℕ };
 
-    ghost view = { λ p. p.short ++ p.rest };
+    ghost view = { λ p. bytes_in p.body };
 }
 
 impl Pieces {
@@ -37,8 +60,7 @@ impl Pieces {
         ensures { result ≡ [] }
     {
         Pieces {
-            short: Short::new(),
-            rest: Rest::new(alloc),
+            body: Body::Here(Short::new(), alloc),
         }
     }
 
@@ -47,8 +69,17 @@ impl Pieces {
         ensures { result ≡ bytes.items }
     {
         Pieces {
-            short: Short::new(),
-            rest: Rest::from_vec(alloc, bytes),
+            body: Body::Away(Rest::from_vec(alloc, bytes)),
+        }
+    }
+
+    /// Drops all bytes; their room stays, up to some tens of kilobytes. Takes no memory.
+    pub fn clear(&mut self)
+        ensures { self.new ≡ [] }
+    {
+        match &mut self.body {
+            Body::Here(short, _) => short.clear(),
+            Body::Away(rest) => rest.clear(),
         }
     }
 
@@ -56,7 +87,10 @@ impl Pieces {
     pub fn len(&self) -> usize
         ensures { result ≡ length self.now }
     {
-        self.short.len() + self.rest.len()
+        match &self.body {
+            Body::Here(short, _) => short.len(),
+            Body::Away(rest) => rest.len(),
+        }
     }
 
     /// Adds a copy of the bytes.
@@ -64,11 +98,19 @@ impl Pieces {
         ensures ok { OnOk result (self.new ≡ self.old ++ bytes.now) }
         ensures err { OnErr result (self.new ≡ self.old) }
     {
-        if self.rest.is_empty() && bytes.len() <= self.short.room() {
-            self.short.add(bytes);
-            return Ok(());
+        match &mut self.body {
+            Body::Here(short, alloc) => {
+                if bytes.len() <= short.room() {
+                    short.add(bytes);
+                    return Ok(());
+                }
+                let mut rest = moved(short, *alloc, bytes.len())?;
+                rest.add(bytes)?;
+                self.body = Body::Away(rest);
+                Ok(())
+            }
+            Body::Away(rest) => rest.add(bytes),
         }
-        self.rest.add(bytes)
     }
 
     /// Adds a byte string, which isn't copied where it is large.
@@ -79,7 +121,15 @@ impl Pieces {
         if bin.len() < LARGE {
             return self.add(bin.as_slice());
         }
-        self.rest.push(alloc, bin)
+        match &mut self.body {
+            Body::Here(short, _) => {
+                let mut rest = moved(short, alloc, 0)?;
+                rest.push(alloc, bin)?;
+                self.body = Body::Away(rest);
+                Ok(())
+            }
+            Body::Away(rest) => rest.push(alloc, bin),
+        }
     }
 
     /// Bytes from this place on, as they stand in one buffer: at least one, where there is one. A loop that writes
@@ -88,11 +138,13 @@ impl Pieces {
         ensures front { IsFront (drop from self.now) result.now }
         ensures goes_on { from < length self.now → 0 < length result.now }
     {
-        let short = self.short.as_slice();
-        if from < short.len() {
-            return &short[from..];
+        match &self.body {
+            Body::Here(short, _) => {
+                let short = short.as_slice();
+                &short[from.min(short.len())..]
+            }
+            Body::Away(rest) => rest.run(from),
         }
-        self.rest.run(from - short.len())
     }
 
     /// Appends all bytes. Memory is asked for once, and where there is none, nothing is appended.
@@ -100,9 +152,23 @@ impl Pieces {
         ensures ok { OnOk result (to.new.items ≡ to.old.items ++ self.now) }
         ensures err { OnErr result (to.new.items ≡ to.old.items) }
     {
-        to.reserve(self.len())?;
-        to.extend_from_slice(self.short.as_slice())?;
-        self.rest.append_to(to);
+        match &self.body {
+            Body::Here(short, _) => to.extend_from_slice(short.as_slice())?,
+            Body::Away(rest) => {
+                to.reserve(rest.len())?;
+                rest.append_to(to);
+            }
+        }
         Ok(())
     }
+}
+
+/// The bytes in a buffer, with room for `more`.
+pub(crate) fn moved(short: &Short, alloc: Global, more: usize) -> Result<Rest, NoMemory>
+    ensures { IfOk result (λ rest. rest ≡ short.now) }
+{
+    let mut rest = Rest::new(alloc);
+    rest.reserve(short.len().saturating_add(more))?;
+    rest.add(short.as_slice())?;
+    Ok(rest)
 }

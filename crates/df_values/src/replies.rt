@@ -1,12 +1,14 @@
 //! Replies, each written straight to where it stays.
 
-ghost use Rattle.std.specs.Prelude.{◌≡◌, ◌++◌, codes, decimal, pos, length, IfOk, OnOk};
+ghost use Rattle.std.specs.Prelude.{◌≡◌, ◌++◌, codes, decimal, pos, length, ◌<◌, IfOk, OnOk};
+ghost use Rattle.std.specs.Bool.{OnTrue, OnFalse};
 ghost use Rattle.df_model.specs.Outcomes as outcomes;
 ghost use Rattle.df_model.specs.Replies.{encoding_of, crlf};
 ghost use Rattle.df_model.specs.declared.reply.Reply.TheVariants.{Simple, Error as ErrorReply, Int, Bulk, NullBulk, NullArray};
 
 use crate::Pieces;
-use crate::short::ROOM;
+use crate::pieces::{Body, moved};
+use crate::short::{ROOM, Short};
 use df_model::{ErrorText, NoMemory};
 use itoa::Buffer;
 use std::alloc::Global;
@@ -29,7 +31,15 @@ impl Pieces {
     pub fn add_error(&mut self, error: &ErrorText) -> Result<(), NoMemory>
         ensures { OnOk result (self.new ≡ self.old ++ encoding_of (ErrorReply error.now)) }
     {
-        self.rest.add_error(error)
+        match &mut self.body {
+            Body::Here(short, alloc) => {
+                let mut rest = moved(short, *alloc, ROOM)?;
+                rest.add_error(error)?;
+                self.body = Body::Away(rest);
+                Ok(())
+            }
+            Body::Away(rest) => rest.add_error(error),
+        }
     }
 
     /// Adds a number.
@@ -52,15 +62,18 @@ impl Pieces {
     pub fn add_bulk(&mut self, bytes: &[u8]) -> Result<(), NoMemory>
         ensures { OnOk result (self.new ≡ self.old ++ encoding_of (Bulk bytes.now)) }
     {
-        if self.rest.is_empty() && bytes.len() < ROOM {
-            let mut buffer = Buffer::new();
-            let digits = buffer.format(bytes.len()).as_bytes();
-            if digits.len() + bytes.len() + AROUND_BULK <= self.short.room() {
-                self.short.add_bulk(digits, bytes);
-                return Ok(());
+        match &mut self.body {
+            Body::Here(short, alloc) => {
+                if bytes.len() < ROOM && add_in_place(short, bytes) {
+                    return Ok(());
+                }
+                let mut rest = moved(short, *alloc, bytes.len())?;
+                rest.add_bulk(bytes)?;
+                self.body = Body::Away(rest);
+                Ok(())
             }
+            Body::Away(rest) => rest.add_bulk(bytes),
         }
-        self.rest.add_bulk(bytes)
     }
 
     /// Adds what stands for a value that isn't there.
@@ -89,14 +102,108 @@ impl Pieces {
         requires { length mark.now ≡ 1 }
         ensures { OnOk result (self.new ≡ self.old ++ (mark.now ++ text.now ++ crlf)) }
     {
-        if self.rest.is_empty()
-            && text.len() < ROOM
-            && text.len() + AROUND_LINE <= self.short.room()
-        {
-            self.short.add_line(mark, text);
-            return Ok(());
+        match &mut self.body {
+            Body::Here(short, alloc) => {
+                if text.len() < ROOM && text.len() + AROUND_LINE <= short.room() {
+                    short.add_line(mark, text);
+                    return Ok(());
+                }
+                let mut rest = moved(short, *alloc, text.len())?;
+                rest.add_line(mark, text)?;
+                self.body = Body::Away(rest);
+                Ok(())
+            }
+            Body::Away(rest) => rest.add_line(mark, text),
         }
-        self.rest.add_line(mark, text)
+    }
+}
+
+/// Adds a bulk in place, where it finds room there.
+fn add_in_place(short: &mut Short, bytes: &[u8]) -> bool
+    requires { length bytes.now < 62 }
+    ensures there { OnTrue result (short.new ≡ short.old ++ encoding_of (Bulk bytes.now)) }
+    ensures not_there { OnFalse result (short.new ≡ short.old) }
+{
+    let mut buffer = Buffer::new();
+    let digits = buffer.format(bytes.len()).as_bytes();
+    if digits.len() + bytes.len() + AROUND_BULK > short.room() {
+        return false;
+    }
+    short.add_bulk(digits, bytes);
+    true
+}
+
+// A reply in place of what stood there.
+impl Pieces {
+    /// One line of text, as a status. Where memory runs out, here and in all that follow, nothing is said of what stands.
+    pub fn put_simple(&mut self, text: &[u8]) -> Result<(), NoMemory>
+        ensures { OnOk result (self.new ≡ encoding_of (Simple text.now)) }
+    {
+        self.clear();
+        self.add_simple(text)
+    }
+
+    /// OK.
+    pub fn put_ok(&mut self) -> Result<(), NoMemory>
+        ensures { OnOk result (self.new ≡ encoding_of outcomes.ok) }
+    {
+        self.put_simple(b"OK")
+    }
+
+    /// An error's line.
+    pub fn put_error(&mut self, error: &ErrorText) -> Result<(), NoMemory>
+        ensures { OnOk result (self.new ≡ encoding_of (ErrorReply error.now)) }
+    {
+        self.clear();
+        self.add_error(error)
+    }
+
+    /// A number.
+    pub fn put_int(&mut self, n: i64) -> Result<(), NoMemory>
+        ensures { OnOk result (self.new ≡ encoding_of (Int n)) }
+    {
+        self.clear();
+        self.add_int(n)
+    }
+
+    /// A count, as a number.
+    pub fn put_count(&mut self, n: usize) -> Result<(), NoMemory>
+        ensures { OnOk result (self.new ≡ encoding_of (outcomes.count n)) }
+    {
+        self.clear();
+        self.add_count(n)
+    }
+
+    /// A byte string with its length in front.
+    pub fn put_bulk(&mut self, bytes: &[u8]) -> Result<(), NoMemory>
+        ensures { OnOk result (self.new ≡ encoding_of (Bulk bytes.now)) }
+    {
+        self.clear();
+        self.add_bulk(bytes)
+    }
+
+    /// What stands for a value that isn't there.
+    pub fn put_null(&mut self) -> Result<(), NoMemory>
+        ensures { OnOk result (self.new ≡ encoding_of NullBulk) }
+    {
+        self.clear();
+        self.add_null()
+    }
+
+    /// What stands for an array that isn't there.
+    pub fn put_null_array(&mut self) -> Result<(), NoMemory>
+        ensures { OnOk result (self.new ≡ encoding_of NullArray) }
+    {
+        self.clear();
+        self.add_null_array()
+    }
+
+    /// The line before the replies of an array, which says how many are to be added behind it.
+    pub fn put_array_head(&mut self, n: usize) -> Result<(), NoMemory>
+        ensures { OnOk result (self.new ≡ codes "*" ++ decimal n ++ crlf) }
+    {
+        self.clear();
+        self.add_array_head(n)
     }
 }
 

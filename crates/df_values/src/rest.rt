@@ -1,6 +1,6 @@
 //! The part of a reply that finds no room in place.
 
-ghost use Rattle.std.specs.Prelude.{◌≡◌, ◌+◌, ◌^◌, ◌<◌, ◌≤◌, ◌++◌, [], IsTrue, ◌↔◌, drop, length, vec_len, vec_capacity, IfSome, OnOk, OnErr};
+ghost use Rattle.std.specs.Prelude.{◌≡◌, ◌+◌, ◌^◌, ◌<◌, ◌≤◌, ◌++◌, [], drop, length, vec_len, vec_capacity, IfSome, OnOk, OnErr};
 ghost use Rattle.df_colls.specs.Runs.{IsFront};
 ghost use Rattle.df_model.specs.Replies.{encoding_of, crlf};
 ghost use Rattle.df_model.specs.declared.reply.Reply.TheVariants.{Bulk, Error as ErrorReply};
@@ -22,6 +22,9 @@ pub struct Rest {
     /// What was added after them.
     tail: Vec<u8>,
 }
+
+/// The most room that is kept for the next reply, so that one large reply doesn't hold its memory for ever.
+const KEPT_ROOM: usize = 65_536;
 
 /// The most bytes in `kept`: so the length of a whole reply fits its type, however long `tail` is.
 const MAX_KEPT: usize = 1 << 62;
@@ -60,11 +63,25 @@ impl Rest {
         }
     }
 
-    /// Whether there are no bytes.
-    pub fn is_empty(&self) -> bool
-        ensures { IsTrue result ↔ (self.now ≡ []) }
+    /// Drops all bytes; the room of the buffer that grows stays where it isn't large. Takes no memory.
+    pub fn clear(&mut self)
+        ensures { self.new ≡ [] }
     {
-        self.len() == 0
+        self.kept.clear();
+        self.kept_len = 0;
+        if self.tail.capacity() > KEPT_ROOM {
+            let alloc = *self.tail.allocator();
+            self.tail = Vec::new(alloc);
+        }
+        self.tail.clear();
+    }
+
+    /// Makes room for so many bytes more.
+    pub fn reserve(&mut self, more: usize) -> Result<(), NoMemory>
+        ensures { self.new ≡ self.old }
+    {
+        self.tail.reserve(more)?;
+        Ok(())
     }
 
     /// How many bytes there are.
