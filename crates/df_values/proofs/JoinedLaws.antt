@@ -1,7 +1,7 @@
 -- Buffers one after another.
 use Rattle.std.proofs.Common.{◌≡◌, ℕ, ◌+◌, ◌-◌, ◌<◌, ◌≤◌, List, [], ◌∷◌, ◌++◌, length, take, drop, get_or, sym, ap, ◌∙◌, subst, append_assoc, append-nil, arith, length-append}
-use Rattle.std.proofs.Math.Seq.{drop-append-add}
-use Rattle.std.proofs.lemmas.List.{drop_more, drop_all, drop-append-le, take_rest}
+use Rattle.std.proofs.Math.Seq.{drop-append-add, take-add, take-append_seam}
+use Rattle.std.proofs.lemmas.List.{drop_more, drop_all, length-drop}
 use Rattle.df_colls.specs.Runs.{IsFront}
 use Rattle.df_model.specs.Values.{Bytes}
 use Rattle.df_values.specs.Joined.{joined}
@@ -48,25 +48,22 @@ run_last kept items more i at whole same h e =
     let all : length kept ≤ i = subst (λ x. length x ≤ i) same h in
     ap (λ x. drop at (joined x ++ more)) (sym (drop_all i kept all)) ∙ e
 
--- what is added to the front, where nothing stands behind it
-pub in_place : (front behind new whole more : Bytes) → behind ≡ [] → front ++ behind ≡ whole → new ≡ front ++ more → new ++ behind ≡ whole ++ more
-in_place front behind new whole more none v e =
-    let same : front ≡ whole = sym (append-nil front) ∙ ap (λ x. front ++ x) (sym none) ∙ v in
-    ap (λ x. new ++ x) none ∙ append-nil new ∙ e ∙ ap (λ x. x ++ more) same
+-- ---- a reply that is read run after run
 
--- ---- what stands in front, and what behind it
+run_taken : (whole run rest : Bytes) (at : ℕ) → drop at whole ≡ run ++ rest → take (at + length run) whole ≡ take at whole ++ run
+run_taken whole run rest at e =
+    take-add at (length run) whole
+    ∙ ap (λ x. take at whole ++ take (length run) x) e
+    ∙ ap (λ x. take at whole ++ x) (take-append_seam run rest)
 
-pub run_short : (front lent behind whole : Bytes) (at : ℕ) → lent ≡ front → front ++ behind ≡ whole → at < length lent → IsFront (drop at whole) (take (length lent - at) (drop at lent))
-run_short front lent behind whole at same v h =
-    let inside : at ≤ length front = subst (λ x. at ≤ length x) same (omega arith) in (
-      behind,
-      ap (drop at) (sym v)
-          ∙ drop-append-le at front behind inside
-          ∙ ap (λ x. drop at x ++ behind) (sym same)
-          ∙ ap (λ x. x ++ behind) (sym (take_rest lent at)),
-    )
+-- what was read so far, and the run that comes next
+pub one_more : (whole run said old now : Bytes) (at : ℕ) → IsFront (drop at whole) run → said ≡ old ++ take at whole → now ≡ said ++ run → now ≡ old ++ take (at + length run) whole
+one_more whole run said old now at f e added =
+    added
+    ∙ ap (λ x. x ++ run) e
+    ∙ append_assoc old (take at whole) run
+    ∙ ap (λ x. old ++ x) (sym (run_taken whole run f.0 at f.1))
 
-pub run_behind : (front lent behind whole run : Bytes) (at : ℕ) → lent ≡ front → front ++ behind ≡ whole → length lent ≤ at → IsFront (drop (at - length lent) behind) run → IsFront (drop at whole) run
-run_behind front lent behind whole run at same v h f =
-    let split : at ≡ length front + (at - length lent) = omega (arith, ap length same) in
-    (f.0, ap (drop at) (sym v) ∙ ap (λ n. drop n (front ++ behind)) split ∙ drop-append-add front behind (at - length lent) ∙ f.1)
+-- a run ends within the whole
+pub run_within : (whole run : Bytes) (at : ℕ) → IsFront (drop at whole) run → at ≤ length whole → at + length run ≤ length whole
+run_within whole run at f h = omega (arith, ap length f.1, length-append run f.0, length-drop at whole)

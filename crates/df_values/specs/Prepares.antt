@@ -5,7 +5,6 @@ use Rattle.df_model.specs.Values.{Bytes}
 use Rattle.df_model.specs.Replies.{encoding_of}
 use Rattle.df_values.specs.declared.value.Value.{Value}
 use Rattle.df_values.specs.declared.change.Change.{Change}
-use Rattle.df_values.specs.declared.change.Prepared.{Prepared}
 use Rattle.df_values.specs.Edits.{applied, Fits, Alters}
 use Rattle.df_values.specs.Seen.{seen_held}
 
@@ -16,6 +15,3 @@ pub record Makes (outcome : Outcome) (held : Option Value) (bytes : Bytes) (made
   pub change : applied made (seen_held held) ≡ settled outcome.1 (seen_held held)
   pub fits : Fits made held
   pub alters : Alters made (seen_held held)
-
-abbrev pub Gives : Outcome → Option Value → Prepared → Type 0
-Gives outcome held prepared = Makes outcome held prepared.reply prepared.change

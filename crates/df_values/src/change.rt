@@ -1,15 +1,11 @@
-//! What becomes of a key, and a command that is prepared.
+//! What becomes of a key.
 
-ghost use Rattle.std.specs.Prelude.{◌≡◌, ◌≢◌, IfOk, IsTrue, ◌↔◌, Some};
+ghost use Rattle.std.specs.Prelude.{◌≡◌, ◌≢◌, IsTrue, ◌↔◌, Some};
 ghost use Rattle.std.specs.Option.{option_copied};
-ghost use Rattle.df_model.specs.Replies.{encoding_of};
-ghost use Rattle.df_model.specs.declared.reply.Reply.TheVariants.{Error as ErrorReply};
 ghost use Rattle.df_values.specs.Seen.{seen, seen_held};
 ghost use Rattle.df_values.specs.Edits.{applied, Alters};
 
-use crate::{Edit, Pieces, Value};
-use df_model::{ErrorText, NoMemory};
-use std::alloc::Global;
+use crate::{Edit, Value};
 
 /// What becomes of a key. All memory that the change takes is in it, or is room of the value that the key holds.
 #[derive(Debug, Drop)]
@@ -20,32 +16,6 @@ pub enum Change {
     Delete,
     /// For a key that holds a value of the edit's kind.
     Edit(Edit),
-}
-
-/// A command that is ready to be done: its reply, and what becomes of its key.
-#[derive(Debug, Drop)]
-pub struct Prepared {
-    pub reply: Pieces,
-    pub change: Change,
-}
-
-impl Prepared {
-    /// A reply alone.
-    pub fn keep(reply: Pieces) -> Prepared
-        ensures { result ≡ record { reply = reply; change = Change.Keep } }
-    {
-        Prepared {
-            reply,
-            change: Change::Keep,
-        }
-    }
-
-    /// An error, which changes nothing.
-    pub fn refuse(alloc: Global, error: &ErrorText) -> Result<Prepared, NoMemory>
-        ensures { IfOk result (λ prepared. prepared ≡ record { reply = encoding_of (ErrorReply error.now); change = Change.Keep }) }
-    {
-        Ok(Prepared::keep(Pieces::of_error(alloc, error)?))
-    }
 }
 
 impl Change {

@@ -1,8 +1,8 @@
 //! One key's value, what a command makes of it, and the bytes of its reply.
 //!
-//! A command is prepared first: its reply, and a `Change` for which all memory is there. Then the change is
-//! made, and can't fail. What a value is to a command stands in specs/Seen, what a change makes of it in
-//! specs/Edits, and what a prepared command promises in specs/Prepares.
+//! A command is prepared first: its reply is written, and a `Change` is made for which all memory is there. Then the
+//! change is done, and can't fail. What a value is to a command stands in specs/Seen, what a change makes of it in
+//! specs/Edits, and what preparing a command promises in specs/Prepares.
 #![tactic(auto)]
 
 mod change;
@@ -14,7 +14,7 @@ mod short;
 mod string;
 mod value;
 
-pub use change::{Change, Prepared};
+pub use change::Change;
 pub use edit::Edit;
 pub use pieces::Pieces;
 pub use string::StrVal;

@@ -64,15 +64,6 @@ impl Pieces {
         }
     }
 
-    /// These bytes, which are moved in. Takes no memory.
-    pub fn from_vec(alloc: Global, bytes: Vec<u8>) -> Pieces
-        ensures { result ≡ bytes.items }
-    {
-        Pieces {
-            body: Body::Away(Rest::from_vec(alloc, bytes)),
-        }
-    }
-
     /// Drops all bytes; their room stays, up to some tens of kilobytes. Takes no memory.
     pub fn clear(&mut self)
         ensures { self.new ≡ [] }
@@ -80,6 +71,14 @@ impl Pieces {
         match &mut self.body {
             Body::Here(short, _) => short.clear(),
             Body::Away(rest) => rest.clear(),
+        }
+    }
+
+    /// Where its memory comes from.
+    pub(crate) fn alloc(&self) -> Global {
+        match &self.body {
+            Body::Here(_, alloc) => *alloc,
+            Body::Away(rest) => rest.alloc(),
         }
     }
 
@@ -130,6 +129,19 @@ impl Pieces {
             }
             Body::Away(rest) => rest.push(alloc, bin),
         }
+    }
+
+    /// Adds a copy of another reply.
+    pub fn add_all(&mut self, other: &Pieces) -> Result<(), NoMemory>
+        ensures { OnOk result (self.new ≡ self.old ++ other.now) }
+    {
+        let mut at = 0;
+        'runs: while at < other.len() {
+            let run = other.run(at);
+            self.add(run)?;
+            at += run.len();
+        }
+        Ok(())
     }
 
     /// Bytes from this place on, as they stand in one buffer: at least one, where there is one. A loop that writes

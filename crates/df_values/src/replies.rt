@@ -1,6 +1,6 @@
 //! Replies, each written straight to where it stays.
 
-ghost use Rattle.std.specs.Prelude.{◌≡◌, ◌++◌, codes, decimal, pos, length, ◌<◌, IfOk, OnOk};
+ghost use Rattle.std.specs.Prelude.{◌≡◌, ◌++◌, codes, decimal, pos, length, ◌<◌, OnOk};
 ghost use Rattle.std.specs.Bool.{OnTrue, OnFalse};
 ghost use Rattle.df_model.specs.Outcomes as outcomes;
 ghost use Rattle.df_model.specs.Replies.{encoding_of, crlf};
@@ -11,7 +11,6 @@ use crate::pieces::{Body, moved};
 use crate::short::{ROOM, Short};
 use df_model::{ErrorText, NoMemory};
 use itoa::Buffer;
-use std::alloc::Global;
 
 /// The bytes of a bulk beside its own and those of its length: a mark and two line ends.
 const AROUND_BULK: usize = 5;
@@ -174,6 +173,16 @@ impl Pieces {
         self.add_count(n)
     }
 
+    /// A count, as a number. It stands in place whatever stood before, and takes no memory.
+    pub fn put_count_in_place(&mut self, n: usize)
+        ensures { self.new ≡ encoding_of (outcomes.count n) }
+    {
+        let mut buffer = Buffer::new();
+        let mut short = Short::new();
+        short.add_line(b":", buffer.format(n).as_bytes());
+        self.body = Body::Here(short, self.alloc());
+    }
+
     /// A byte string with its length in front.
     pub fn put_bulk(&mut self, bytes: &[u8]) -> Result<(), NoMemory>
         ensures { OnOk result (self.new ≡ encoding_of (Bulk bytes.now)) }
@@ -204,78 +213,5 @@ impl Pieces {
     {
         self.clear();
         self.add_array_head(n)
-    }
-}
-
-// Whole replies.
-impl Pieces {
-    /// One line of text, as a status.
-    pub fn of_simple(alloc: Global, text: &[u8]) -> Result<Pieces, NoMemory>
-        ensures { IfOk result (λ pieces. pieces ≡ encoding_of (Simple text.now)) }
-    {
-        let mut pieces = Pieces::new(alloc);
-        pieces.add_simple(text)?;
-        Ok(pieces)
-    }
-
-    /// OK.
-    pub fn of_ok(alloc: Global) -> Result<Pieces, NoMemory>
-        ensures { IfOk result (λ pieces. pieces ≡ encoding_of outcomes.ok) }
-    {
-        Pieces::of_simple(alloc, b"OK")
-    }
-
-    /// An error's line.
-    pub fn of_error(alloc: Global, error: &ErrorText) -> Result<Pieces, NoMemory>
-        ensures { IfOk result (λ pieces. pieces ≡ encoding_of (ErrorReply error.now)) }
-    {
-        let mut pieces = Pieces::new(alloc);
-        pieces.add_error(error)?;
-        Ok(pieces)
-    }
-
-    /// A number.
-    pub fn of_int(alloc: Global, n: i64) -> Result<Pieces, NoMemory>
-        ensures { IfOk result (λ pieces. pieces ≡ encoding_of (Int n)) }
-    {
-        let mut pieces = Pieces::new(alloc);
-        pieces.add_int(n)?;
-        Ok(pieces)
-    }
-
-    /// A count, as a number.
-    pub fn of_count(alloc: Global, n: usize) -> Result<Pieces, NoMemory>
-        ensures { IfOk result (λ pieces. pieces ≡ encoding_of (outcomes.count n)) }
-    {
-        let mut pieces = Pieces::new(alloc);
-        pieces.add_count(n)?;
-        Ok(pieces)
-    }
-
-    /// A byte string with its length in front.
-    pub fn of_bulk(alloc: Global, bytes: &[u8]) -> Result<Pieces, NoMemory>
-        ensures { IfOk result (λ pieces. pieces ≡ encoding_of (Bulk bytes.now)) }
-    {
-        let mut pieces = Pieces::new(alloc);
-        pieces.add_bulk(bytes)?;
-        Ok(pieces)
-    }
-
-    /// What stands for a value that isn't there.
-    pub fn of_null(alloc: Global) -> Result<Pieces, NoMemory>
-        ensures { IfOk result (λ pieces. pieces ≡ encoding_of NullBulk) }
-    {
-        let mut pieces = Pieces::new(alloc);
-        pieces.add_null()?;
-        Ok(pieces)
-    }
-
-    /// What stands for an array that isn't there.
-    pub fn of_null_array(alloc: Global) -> Result<Pieces, NoMemory>
-        ensures { IfOk result (λ pieces. pieces ≡ encoding_of NullArray) }
-    {
-        let mut pieces = Pieces::new(alloc);
-        pieces.add_null_array()?;
-        Ok(pieces)
     }
 }

@@ -52,17 +52,6 @@ impl Rest {
         }
     }
 
-    /// These bytes. Takes no memory.
-    pub fn from_vec(alloc: Global, bytes: Vec<u8>) -> Rest
-        ensures { result ≡ bytes.items }
-    {
-        Rest {
-            kept: Vec::new(alloc),
-            kept_len: 0,
-            tail: bytes,
-        }
-    }
-
     /// Drops all bytes; the room of the buffer that grows stays where it isn't large. Takes no memory.
     pub fn clear(&mut self)
         ensures { self.new ≡ [] }
@@ -70,10 +59,14 @@ impl Rest {
         self.kept.clear();
         self.kept_len = 0;
         if self.tail.capacity() > KEPT_ROOM {
-            let alloc = *self.tail.allocator();
-            self.tail = Vec::new(alloc);
+            self.tail = Vec::new(self.alloc());
         }
         self.tail.clear();
+    }
+
+    /// Where its memory comes from.
+    pub fn alloc(&self) -> Global {
+        *self.tail.allocator()
     }
 
     /// Makes room for so many bytes more.
