@@ -1,22 +1,19 @@
 -- Changes of a hash.
-use Rattle.std.proofs.Common.{◌≡◌, ◌≢◌, ℕ, zero, suc, ◌+◌, ◌<◌, ◌≤◌, Bool, true, false, cond, List, [], ◌∷◌, length, refl, sym, ap, subst, ◌∙◌, arith}
+use Rattle.std.proofs.Common.{◌≡◌, ◌≢◌, ℕ, ◌+◌, ◌≤◌, Bool, true, false, cond, List, [], ◌∷◌, length, sym, ap, ◌∙◌, arith}
 use Rattle.std.proofs.lemmas.Bool.Decides.{nat_tests}
-use Rattle.std.specs.Prelude.{Option, Some, None, is_some, ◌==◌, if◌then◌else◌}
+use Rattle.std.specs.Prelude.{Some, ◌==◌, if◌then◌else◌}
 use Rattle.std.specs.Cmp.Lexicographic.{nat_list_cmp_total}
 use Rattle.std.specs.FinMap as map
 use Rattle.df_model.specs.Spared.{Spared}
 use Rattle.df_model.specs.Values.{Bytes, Fields}
 use Rattle.df_model.specs.Values as plain
-use Rattle.df_model.specs.Meaning.Hashes.{with_fields, without_fields, stored}
+use Rattle.df_model.specs.Meaning.Hashes.{with_fields, stored}
 use Rattle.df_model.specs.Outcomes as outcomes
 use Rattle.df_colls.specs.Roomy.{RoomyFields}
-use Rattle.df_values.specs.declared.value.Value.{Value}
 use Rattle.df_values.specs.declared.value.Value.TheVariants as values
-use Rattle.df_values.specs.declared.edit.Edit.{Edit}
-use Rattle.df_values.specs.declared.edit.Edit.TheVariants.{PutFields, DropFields}
-use Rattle.df_values.specs.declared.change.Change.{Change}
+use Rattle.df_values.specs.declared.edit.Edit.TheVariants.{PutFields}
 use Rattle.df_values.specs.declared.change.Change.TheVariants as changes
-use Rattle.df_hashes.specs.Makes.{Makes}
+use Rattle.df_hashes.specs.Settles.{Settles}
 
 grown : (ps : List (Bytes × Bytes)) (m : Fields) → map.len m ≤ map.len (with_fields ps m)
 grown [] m = omega arith
@@ -37,7 +34,7 @@ pub stored_some : (n : Fields) → map.len n ≢ 0 → stored n ≡ outcomes.Cha
 stored_some n some = ap (λ (b : Bool). if b then outcomes.Change.Delete else outcomes.Change.Put (plain.Value.Hash n)) (nonzero (map.len n) some)
 
 pub put_makes : (pairs : Spared (Bytes × Bytes)) (hash : RoomyFields) (m : Fields) → hash.fields ≡ m → length pairs.items ≤ hash.spare → with_fields pairs.items m ≢ m
-    → Makes (stored (with_fields pairs.items m)) (Some (values.Hash hash)) (changes.Edit (PutFields pairs))
+    → Settles (stored (with_fields pairs.items m)) (Some (values.Hash hash)) (changes.Edit (PutFields pairs))
 put_makes pairs hash m e room alters =
     let some : map.len (with_fields pairs.items m) ≢ 0 = λ z. alters (both_empty m (with_fields pairs.items m) (grown pairs.items m) z) in
     record {

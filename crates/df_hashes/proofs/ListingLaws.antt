@@ -1,17 +1,15 @@
 -- Replies that list entries.
-use Rattle.std.proofs.Common.{◌≡◌, ℕ, zero, suc, ◌+◌, ◌<◌, ◌≤◌, List, [], ◌∷◌, ◌++◌, length, take, drop, get_or, map, codes, decimal, refl, sym, ap, ◌∙◌, append_assoc, append-nil, arith, length-append, drop-cons}
+use Rattle.std.proofs.Common.{◌≡◌, ℕ, zero, suc, ◌+◌, ◌<◌, ◌≤◌, List, [], ◌∷◌, ◌++◌, length, drop, get_or, map, codes, decimal, refl, sym, ap, ◌∙◌, append_assoc, append-nil, arith, length-append, drop-cons}
 use Rattle.std.proofs.Math.Seq.{drop-append_seam}
 use Rattle.std.proofs.lemmas.List.{length-map, drop-drop, length-drop}
-use Rattle.std.proofs.lemmas.List.Concat.{flat_map_single}
 use Rattle.std.proofs.lemmas.List.Folds.{flat_map-map}
 use Rattle.std.proofs.lemmas.Grind.{flat_map-append}
 use Rattle.std.specs.List.{flat_map}
 use Rattle.std.specs.FinMap as fin
 use Rattle.df_model.specs.Values.{Bytes, Fields}
-use Rattle.df_model.specs.Outcomes.{bulks, array, bulk_or_null}
+use Rattle.df_model.specs.Outcomes.{bulks, bulk_or_null}
 use Rattle.df_model.specs.Meaning.Hashes.{hmget}
 use Rattle.df_model.specs.Replies.{encoding_of, crlf}
-use Rattle.df_model.specs.declared.reply.Reply.{Reply}
 use Rattle.df_model.specs.declared.reply.Reply.TheVariants.{Bulk}
 use Rattle.df_model.proofs.EncodingLaws.{bulks_is, array_is}
 use Rattle.df_colls.specs.Runs.{IsFront}

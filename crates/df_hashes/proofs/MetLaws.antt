@@ -1,11 +1,11 @@
 -- The words met so far, in a set or compared with one another.
-use Rattle.std.proofs.Common.{◌≡◌, ℕ, ◌+◌, ◌<◌, ◌≤◌, Bool, true, false, Result, Ok, Err, List, [], ◌∷◌, length, get_or, drop, map, refl, sym, ap, subst, ◌∙◌}
+use Rattle.std.proofs.Common.{◌≡◌, ℕ, Bool, Result, Ok, Err, List, [], ◌∷◌, length, drop, map, sym, ap, subst, ◌∙◌}
 use Rattle.std.proofs.Math.Seq.{drop-length}
-use Rattle.std.specs.Prelude.{Option, Some, None, IfOk, ◌||◌, nat_eq}
+use Rattle.std.specs.Prelude.{Option, Some, IfOk, ◌||◌, nat_eq}
 use Rattle.std.specs.Ordering.{eq_by_cmp}
 use Rattle.std.specs.Cmp.Lexicographic.{pointwise, texts_ties}
 use Rattle.std.specs.FinMap as fin
-use Rattle.df_model.specs.Values.{Bytes, Members}
+use Rattle.df_model.specs.Values.{Bytes}
 use Rattle.df_model.specs.declared.bin.NoMemory.{NoMemory}
 use Rattle.df_colls.specs.Roomy.{order, RoomyMembers}
 use Rattle.df_colls.proofs.CountLaws.{none_met, put_has}

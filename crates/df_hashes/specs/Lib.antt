@@ -1,6 +1,5 @@
 pub mod Serves
 pub mod Parts
-pub mod Rows
-pub mod Tasks
-pub mod Makes
+pub mod Looks
+pub mod Settles
 pub mod Counts

@@ -1,6 +1,5 @@
 -- What is told of a hash as a whole.
-use Rattle.std.specs.Prelude.{ℕ, ◌+◌, List, [], ◌∷◌, ◌++◌}
-use Rattle.std.specs.List.{flat_map}
+use Rattle.std.specs.Prelude.{ℕ, ◌+◌, ◌++◌}
 use Rattle.df_model.specs.Values.{Bytes, Fields}
 use Rattle.df_model.specs.Meaning.Hashes as hashes
 use Rattle.df_model.specs.Replies.{encoding_of}

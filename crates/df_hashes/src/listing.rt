@@ -8,7 +8,6 @@ ghost use Rattle.df_hashes.specs.Parts.{part_row, entry_bytes, bulk_count};
 use df_colls::HashVal;
 use df_model::{Bin, NoMemory};
 use df_values::Pieces;
-use std::alloc::Global;
 
 /// What is told of each entry.
 #[derive(Clone, Copy, Debug, Drop)]
@@ -18,19 +17,18 @@ pub(crate) enum Part {
     Both,
 }
 
-/// All entries' part.
-pub(crate) fn list(alloc: Global, part: Part, hash: &HashVal) -> Result<Pieces, NoMemory>
-    ensures { IfOk result (λ pieces. pieces ≡ encoding_of (part_row part hash.now.fields)) }
+/// Writes all entries' part.
+pub(crate) fn list(part: Part, hash: &HashVal, reply: &mut Pieces) -> Result<(), NoMemory>
+    ensures { OnOk result (reply.new ≡ encoding_of (part_row part hash.now.fields)) }
 {
-    let mut pieces = Pieces::new(alloc);
-    pieces.add_array_head(bulk_count(part, hash.len())?)?;
+    reply.put_array_head(bulk_count(part, hash.len())?)?;
     let mut at = 0;
     'runs: while at < hash.len() {
         let run = hash.run(at);
-        add_run(&mut pieces, part, run)?;
+        add_run(part, run, reply)?;
         at += run.len();
     }
-    Ok(pieces)
+    Ok(())
 }
 
 /// How many bulks that makes.
@@ -43,24 +41,24 @@ fn bulk_count(part: Part, entries: usize) -> Result<usize, NoMemory>
     }
 }
 
-fn add_run(pieces: &mut Pieces, part: Part, run: &[(Bin, Bin)]) -> Result<(), NoMemory>
-    ensures { OnOk result (pieces.new ≡ pieces.old ++ flat_map (entry_bytes part) run.now) }
+fn add_run(part: Part, run: &[(Bin, Bin)], reply: &mut Pieces) -> Result<(), NoMemory>
+    ensures { OnOk result (reply.new ≡ reply.old ++ flat_map (entry_bytes part) run.now) }
 {
     'entries: for entry in run {
-        add_entry(pieces, part, &entry.0, &entry.1)?;
+        add_entry(part, &entry.0, &entry.1, reply)?;
     }
     Ok(())
 }
 
-fn add_entry(pieces: &mut Pieces, part: Part, field: &Bin, word: &Bin) -> Result<(), NoMemory>
-    ensures { OnOk result (pieces.new ≡ pieces.old ++ entry_bytes part (field.now, word.now)) }
+fn add_entry(part: Part, field: &Bin, word: &Bin, reply: &mut Pieces) -> Result<(), NoMemory>
+    ensures { OnOk result (reply.new ≡ reply.old ++ entry_bytes part (field.now, word.now)) }
 {
     match part {
-        Part::Fields => pieces.add_bulk(field.as_slice()),
-        Part::Words => pieces.add_bulk(word.as_slice()),
+        Part::Fields => reply.add_bulk(field.as_slice()),
+        Part::Words => reply.add_bulk(word.as_slice()),
         Part::Both => {
-            pieces.add_bulk(field.as_slice())?;
-            pieces.add_bulk(word.as_slice())
+            reply.add_bulk(field.as_slice())?;
+            reply.add_bulk(word.as_slice())
         }
     }
 }

@@ -64,5 +64,5 @@ pub bulks_of : (entries : List (Bytes × Unit {0})) → (codes "*" ++ decimal (l
 bulks_of entries = array_of (λ entry. Bulk entry.0) entries ∙ ap (λ replies. encoding_of (array replies)) (sym (twice (λ entry. entry.0) Bulk entries))
 
 -- the line before the replies is written
-pub begins : (before head after rest whole : Bytes) → before ≡ [] → after ≡ before ++ head → head ++ rest ≡ whole → after ++ rest ≡ whole
-begins before head after rest whole none written e = ap (λ bytes. bytes ++ rest) (written ∙ ap (λ bytes. bytes ++ head) none) ∙ e
+pub begins : (head after rest whole : Bytes) → after ≡ head → head ++ rest ≡ whole → after ++ rest ≡ whole
+begins head after rest whole written e = ap (λ bytes. bytes ++ rest) written ∙ e

@@ -1,4 +1,4 @@
 pub mod Serves
-pub mod Questions
+pub mod Looks
 pub mod Combined
 pub mod Counted

@@ -3,12 +3,12 @@
 ghost use Rattle.std.specs.Prelude.{Some, IfOk};
 ghost use Rattle.df_model.specs.Meaning.Sets.{stored};
 ghost use Rattle.df_model.specs.Outcomes.{count};
-ghost use Rattle.df_values.specs.Prepares.{Gives};
+ghost use Rattle.df_values.specs.Prepares.{Makes};
 ghost use Rattle.df_sets.specs.Counted.{Counted};
 
 use df_colls::SetVal;
 use df_model::{Bin, NoMemory};
-use df_values::{Change, Pieces, Prepared, Value};
+use df_values::{Change, Pieces, Value};
 use std::alloc::Global;
 
 /// How many of the words are members, or how many aren't; a word that comes again is not counted again.
@@ -36,15 +36,13 @@ pub(crate) fn count_words(
     Ok(n)
 }
 
-/// Prepares a command that changes nothing: none of its words counts. A set that is held has a member, so its key
-/// keeps it.
-pub(crate) fn unchanged(alloc: Global, set: &SetVal) -> Result<Prepared, NoMemory>
-    ensures { IfOk result (λ prepared. Gives (count 0, stored set.now.members) (Some (Value.Set set.now)) prepared) }
+/// A command that changes nothing: none of its words counts. A set that is held has a member, so its key keeps it.
+pub(crate) fn unchanged(set: &SetVal, reply: &mut Pieces) -> Result<Change, NoMemory>
+    ensures { IfOk result (λ change. Makes (count 0, stored set.now.members) (Some (Value.Set set.now)) reply.new change) }
 {
-    let reply = Pieces::of_count(alloc, 0)?;
+    reply.put_count(0)?;
     if set.is_empty() {
-        let change = Change::Delete;
-        return Ok(Prepared { reply, change });
+        return Ok(Change::Delete);
     }
-    Ok(Prepared::keep(reply))
+    Ok(Change::Keep)
 }

@@ -6,13 +6,13 @@
 
 mod add;
 mod combination;
-mod commands;
 mod count;
+mod dispatch;
 mod fold;
 mod look;
 mod remove;
 
 pub use combination::Combine;
-pub use commands::prepare;
+pub use dispatch::prepare_into;
 pub use fold::{combine, first, next};
 pub use look::members;

@@ -1,4 +1,4 @@
-use Rattle.std.proofs.Common.{◌≡◌, ◌≤◌, drop, length}
+use Rattle.std.proofs.Common.{◌≤◌, drop, length}
 use Rattle.df_hashes.specs.Counts.{Knows, IsDropCount}
 use Rattle.df_hashes.proofs.count.count_drops.Given as goal
 

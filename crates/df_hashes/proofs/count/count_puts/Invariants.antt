@@ -1,4 +1,4 @@
-use Rattle.std.proofs.Common.{◌≡◌, ◌≤◌, drop, length}
+use Rattle.std.proofs.Common.{◌≤◌, drop, length}
 use Rattle.df_model.specs.Meaning.{firsts}
 use Rattle.df_hashes.specs.Counts.{Knows, IsPutCount}
 use Rattle.df_hashes.proofs.count.count_puts.Given as goal

@@ -1,4 +1,4 @@
-use Rattle.std.proofs.Common.{◌+◌, true, false, drop, ap, sym}
+use Rattle.std.proofs.Common.{◌+◌, true, false, drop, ap}
 use Rattle.df_model.specs.Meaning.{firsts}
 use Rattle.df_colls.proofs.CountLaws.{next_of}
 use Rattle.df_hashes.proofs.MetLaws.{compared}

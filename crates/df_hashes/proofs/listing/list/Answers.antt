@@ -1,4 +1,4 @@
-use Rattle.std.proofs.Common.{◌≡◌, ◌≤◌, ◌+◌, ◌++◌, length, codes, decimal, ap, sym, ◌∙◌, arith}
+use Rattle.std.proofs.Common.{◌≤◌, ◌+◌, ◌++◌, length, codes, decimal, ap, sym, ◌∙◌, arith}
 use Rattle.std.specs.List.{flat_map}
 use Rattle.std.specs.FinMap as map
 use Rattle.df_model.specs.Replies.{crlf}
@@ -12,8 +12,7 @@ runs-init c =
     record {
       within = omega arith;
       told = ap (λ x. x ++ flat_map (entry_bytes c.args.part) (map.entries m))
-          (c.in_ok-add_array_head.ensures
-          ∙ ap (λ x. x ++ (codes "*" ++ decimal c.in_ok-bulk_count.field-0 ++ crlf)) c.new-pieces.ensures
+          (c.in_ok-put_array_head.ensures
           ∙ ap (λ n. codes "*" ++ decimal n ++ crlf) (c.in_ok-bulk_count.ensures ∙ ap (bulk_count c.args.part) c.len.ensures))
           ∙ sym (part_is c.args.part m);
     }
@@ -34,10 +33,10 @@ runs-preserved c =
     let within : c.runs.at + length c.run-run.result.now ≤ length (map.entries m) = run_within (map.entries m) c.run-run.result.now c.runs.at inside c.run-run.ensures.front in
     record {
       within = omega (arith, long, within);
-      told = run_on (entry_bytes c.args.part) (map.entries m) c.run-run.result.now c.runs.at c.runs.pieces _ _ c.run-run.ensures.front c.in_ok-add_run.ensures c.runs.invariant.told;
+      told = run_on (entry_bytes c.args.part) (map.entries m) c.run-run.result.now c.runs.at c.runs.reply _ _ c.run-run.ensures.front c.in_ok-add_run.ensures c.runs.invariant.told;
     }
 
 pub returns : goal.returns
 returns c =
     let m = c.args.hash.now.fields in
-    told_all (entry_bytes c.args.part) (map.entries m) c.runs.at c.runs.pieces _ (omega (arith, map.len-entries m, c.runs-test.false, c.len-in-runs.ensures)) c.runs.invariant.told
+    told_all (entry_bytes c.args.part) (map.entries m) c.runs.at c.runs.reply _ (omega (arith, map.len-entries m, c.runs-test.false, c.len-in-runs.ensures)) c.runs.invariant.told

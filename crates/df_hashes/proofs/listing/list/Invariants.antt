@@ -7,7 +7,7 @@ use Rattle.df_hashes.proofs.listing.list.Given as goal
 
 abbrev pub invariant-runs : goal.invariant-runs
 invariant-runs l =
-    record { within : l.at ≤ map.len l.hash.fields; told : l.pieces ++ flat_map (entry_bytes l.part) (drop l.at (map.entries l.hash.fields)) ≡ encoding_of (part_row l.part l.hash.fields) }
+    record { within : l.at ≤ map.len l.hash.fields; told : l.reply ++ flat_map (entry_bytes l.part) (drop l.at (map.entries l.hash.fields)) ≡ encoding_of (part_row l.part l.hash.fields) }
 
 abbrev pub decreases-runs : goal.decreases-runs
 decreases-runs l = map.len l.hash.fields - l.at

@@ -7,4 +7,4 @@ use Rattle.df_model.specs.Replies.{encoding_of}
 use Rattle.df_hashes.proofs.look.mget.Given as goal
 
 abbrev pub invariant-fields : goal.invariant-fields
-invariant-fields l = l.pieces ++ flat_map (λ w. encoding_of (bulk_or_null (map.get l.hash.fields w))) (drop l.field-index l.fields) ≡ encoding_of (hmget l.fields l.hash.fields)
+invariant-fields l = l.reply ++ flat_map (λ w. encoding_of (bulk_or_null (map.get l.hash.fields w))) (drop l.field-index l.fields) ≡ encoding_of (hmget l.fields l.hash.fields)

@@ -1,4 +1,4 @@
-use Rattle.std.proofs.Common.{ap, arith}
+use Rattle.std.proofs.Common.{arith}
 use Rattle.df_hashes.proofs.ChangeLaws.{put_makes}
 use Rattle.df_hashes.proofs.write.put.Goals as goal
 

@@ -12,4 +12,4 @@ returns c =
     let made : set ≡ with_members c.args.words.items empty = c.add_each.ensures ∙ ap (with_members c.args.words.items) (c.reserve.ensures.members ∙ c.new-set.ensures) in
     let some : 0 < len set = grind (arith, c.if-is_empty.ensures) in
     let both = adds_to_none c.args.words.items set made some in
-    record { reply = c.in_ok-reply.ensures ∙ ap (λ n. encoding_of (count n)) c.len-2.ensures ∙ ap encoding_of both.0; change = both.1; fits = tt; alters = tt }
+    record { reply = c.in_ok-put_count.ensures ∙ ap (λ n. encoding_of (count n)) c.len-2.ensures ∙ ap encoding_of both.0; change = both.1; fits = tt; alters = tt }

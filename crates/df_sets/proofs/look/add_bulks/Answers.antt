@@ -6,8 +6,8 @@ use Rattle.df_sets.proofs.look.add_bulks.Goals as goal
 
 pub entries-preserved : goal.entries-preserved
 entries-preserved c =
-    goes_on (λ entry. encoding_of (Bulk entry.0)) c.entries.pieces c.add_bulk.new.self _ c.args.run.now c.entries.entry-index c.entry-item.result (omega arith) c.entry-item.is
-    (c.in_ok-add_bulk.ensures ∙ ap (λ bytes. c.entries.pieces ++ encoding_of (Bulk bytes)) c.as_slice.ensures) c.entries.invariant
+    goes_on (λ entry. encoding_of (Bulk entry.0)) c.entries.reply c.add_bulk.new.self _ c.args.run.now c.entries.entry-index c.entry-item.result (omega arith) c.entry-item.is
+    (c.in_ok-add_bulk.ensures ∙ ap (λ bytes. c.entries.reply ++ encoding_of (Bulk bytes)) c.as_slice.ensures) c.entries.invariant
 
 pub returns : goal.returns
-returns c = ends (λ entry. encoding_of (Bulk entry.0)) c.entries.pieces _ c.args.run.now c.entries.entry-index (omega arith) c.entries.invariant
+returns c = ends (λ entry. encoding_of (Bulk entry.0)) c.entries.reply _ c.args.run.now c.entries.entry-index (omega arith) c.entries.invariant

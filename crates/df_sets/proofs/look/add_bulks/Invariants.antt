@@ -5,4 +5,4 @@ use Rattle.df_model.specs.declared.reply.Reply.TheVariants.{Bulk}
 use Rattle.df_sets.proofs.look.add_bulks.Given as goal
 
 abbrev pub invariant-entries : goal.invariant-entries
-invariant-entries l = l.pieces ++ flat_map (λ entry. encoding_of (Bulk entry.0)) (drop l.entry-index l.run) ≡ l.fn.pieces ++ flat_map (λ entry. encoding_of (Bulk entry.0)) l.run
+invariant-entries l = l.reply ++ flat_map (λ entry. encoding_of (Bulk entry.0)) (drop l.entry-index l.run) ≡ l.fn.reply ++ flat_map (λ entry. encoding_of (Bulk entry.0)) l.run

@@ -5,5 +5,5 @@ use Rattle.df_sets.proofs.remove.remove_from_none.Goals as goal
 
 pub returns : goal.returns
 returns c =
-    let none = removes_from_none c.args.words.items in
-    rw c.keep.ensures (record { reply = c.in_ok-of_count.ensures ∙ ap encoding_of none.0; change = none.1; fits = tt; alters = tt })
+    let none = removes_from_none c.args._words.now.items in
+    record { reply = c.in_ok-put_count.ensures ∙ ap encoding_of none.0; change = none.1; fits = tt; alters = tt }

@@ -1,5 +1,5 @@
 use Rattle.std.proofs.Common.{rules}
-use Rattle.df_sets.proofs.commands.prepare.Goals as goal
+use Rattle.df_hashes.proofs.dispatch.prepare_into.Goals as goal
 
 pub returns-in-Some-clause-ok : goal.returns-in-Some-clause-ok
 returns-in-Some-clause-ok c = rw c.in-Some.is (search rules)

@@ -4,13 +4,13 @@ use Rattle.df_model.specs.Members as members
 use Rattle.df_model.specs.Replies.{crlf, encoding_of}
 use Rattle.df_model.specs.declared.reply.Reply.TheVariants.{Bulk}
 use Rattle.df_sets.proofs.ReplyLaws.{bulks_of, begins, run_on, run_within, ends}
-use Rattle.df_sets.proofs.look.members.Goals as goal
+use Rattle.df_sets.proofs.look.put_members.Goals as goal
 
 pub runs-init : goal.runs-init
 runs-init c =
     let all = map.entries c.args.set.now.members in (
-      begins c.new-pieces.result (codes "*" ++ decimal (length all) ++ crlf) c.add_array_head.new.self _ _ c.new-pieces.ensures
-          (c.in_ok-add_array_head.ensures ∙ ap (λ n. c.new-pieces.result ++ (codes "*" ++ decimal n ++ crlf)) (c.len.ensures ∙ map.len-entries c.args.set.now.members))
+      begins (codes "*" ++ decimal (length all) ++ crlf) c.put_array_head.new.self _ _
+          (c.in_ok-put_array_head.ensures ∙ ap (λ n. codes "*" ++ decimal n ++ crlf) (c.len.ensures ∙ map.len-entries c.args.set.now.members))
           (bulks_of all),
       omega arith,
     )
@@ -20,7 +20,7 @@ runs-preserved c =
     let all = map.entries c.args.set.now.members in
     let long : members.len c.args.set.now.members ≡ length all = map.len-entries c.args.set.now.members in
     let within : c.runs.at + length c.run-run.result.now ≤ length all = run_within all c.run-run.result.now c.runs.at c.run-run.ensures.front (omega arith) in (
-      run_on (λ entry. encoding_of (Bulk entry.0)) c.runs.pieces c.add_bulks.new.pieces _ all c.run-run.result.now c.runs.at c.run-run.ensures.front c.in_ok-add_bulks.ensures c.runs.invariant.0,
+      run_on (λ entry. encoding_of (Bulk entry.0)) c.runs.reply c.add_bulks.new.reply _ all c.run-run.result.now c.runs.at c.run-run.ensures.front c.in_ok-add_bulks.ensures c.runs.invariant.0,
       omega arith,
     )
 
@@ -35,4 +35,4 @@ pub returns : goal.returns
 returns c =
     let all = map.entries c.args.set.now.members in
     let long : members.len c.args.set.now.members ≡ length all = map.len-entries c.args.set.now.members in
-    ends (λ entry. encoding_of (Bulk entry.0)) c.runs.pieces _ all c.runs.at (omega (arith, c.len-in-runs.ensures)) c.runs.invariant.0
+    ends (λ entry. encoding_of (Bulk entry.0)) c.runs.reply _ all c.runs.at (omega (arith, c.len-in-runs.ensures)) c.runs.invariant.0

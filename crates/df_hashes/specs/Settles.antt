@@ -8,7 +8,7 @@ use Rattle.df_values.specs.Edits.{applied, edited, Fits, Alters}
 use Rattle.df_values.specs.Seen.{seen, seen_held}
 
 -- `held` is what the key holds when the change is made
-pub record Makes (wanted : outcomes.Change) (held : Option Value) (made : Change) : Type 0 where
+pub record Settles (wanted : outcomes.Change) (held : Option Value) (made : Change) : Type 0 where
   pub change : applied made (seen_held held) ≡ outcomes.settled wanted (seen_held held)
   pub fits : Fits made held
   pub alters : Alters made (seen_held held)
