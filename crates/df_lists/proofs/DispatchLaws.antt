@@ -1,6 +1,6 @@
 -- A key that holds no list refuses each command on lists.
-use Rattle.std.proofs.Common.{◌≡◌, List, Result, Ok, Err, refl, ap}
-use Rattle.std.specs.Prelude.{Some, IfOk}
+use Rattle.std.proofs.Common.{◌≡◌, List, refl, ap}
+use Rattle.std.specs.Prelude.{Some}
 use Rattle.df_model.specs.Values.{Bytes}
 use Rattle.df_model.specs.Values as plain
 use Rattle.df_model.specs.Spared.{Spared}
@@ -9,7 +9,6 @@ use Rattle.df_model.specs.Meaning.{one}
 use Rattle.df_model.specs.Meaning.Lists as rows
 use Rattle.df_model.specs.Outcomes.{Outcome, outcome, refused}
 use Rattle.df_model.specs.Replies.{encoding_of}
-use Rattle.df_model.specs.declared.bin.NoMemory.{NoMemory}
 use Rattle.df_model.specs.declared.command.OneOp.{OneOp}
 use Rattle.df_model.specs.declared.command.OneOp.TheVariants as ones
 use Rattle.df_model.specs.declared.reply.ErrorText.TheVariants.{WrongKind}
@@ -18,8 +17,7 @@ use Rattle.df_model.specs.declared.reply.Reply.TheVariants.{Error}
 use Rattle.df_values.specs.declared.value.Value.{Value}
 use Rattle.df_values.specs.declared.value.Value.TheVariants as values
 use Rattle.df_values.specs.declared.change.Change.TheVariants as changes
-use Rattle.df_values.specs.declared.change.Prepared.{Prepared}
-use Rattle.df_values.specs.Prepares.{Gives}
+use Rattle.df_values.specs.Prepares.{Makes}
 use Rattle.df_values.specs.Seen.{seen}
 use Rattle.df_lists.specs.Serves.{Serves}
 use Rattle.df_lists.proofs.ResizeLaws.{keeps}
@@ -61,10 +59,7 @@ no_list (values.List list) other xs is = other list refl
 no_list (values.Hash hash) other xs is = cc
 no_list (values.Set set) other xs is = cc
 
-pub refuses : (op : OneOp) (value : Value) (result : Result Prepared NoMemory) → Serves (family_of op) → ((list : Spared Bytes) → value ≡ values.List list → ⊥)
-    → IfOk result (λ prepared. prepared ≡ record { reply = encoding_of (Error WrongKind); change = changes.Keep })
-    → IfOk result (λ prepared. Gives (outcome (one op) (Some (seen value))) (Some value) prepared)
-refuses op value (Ok prepared) serves other is =
-    keeps (outcome (one op) (Some (seen value))) (Error WrongKind) (Some value) prepared (wrong_kind op (seen value) serves (no_list value other))
-    (ap (λ p. p.reply) is) (ap (λ p. p.change) is)
-refuses op value (Err e) serves other is = tt
+pub refuses : (op : OneOp) (value : Value) (bytes : Bytes) → Serves (family_of op) → ((list : Spared Bytes) → value ≡ values.List list → ⊥)
+    → bytes ≡ encoding_of (Error WrongKind) → Makes (outcome (one op) (Some (seen value))) (Some value) bytes changes.Keep
+refuses op value bytes serves other replies =
+    keeps (outcome (one op) (Some (seen value))) (Error WrongKind) (Some value) bytes changes.Keep (wrong_kind op (seen value) serves (no_list value other)) replies refl

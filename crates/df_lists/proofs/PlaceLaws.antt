@@ -6,14 +6,15 @@ use Rattle.std.proofs.lemmas.List.{length-drop, length-take}
 use Rattle.std.proofs.Math.ListN.{length-set}
 use Rattle.df_model.specs.Spared.{Spared}
 use Rattle.df_model.specs.Values as plain
-use Rattle.df_model.specs.Outcomes.{Change, count, ok}
+use Rattle.df_model.specs.Outcomes.{count, ok}
+use Rattle.df_model.specs.Outcomes as outcomes
 use Rattle.df_model.specs.Replies.{encoding_of}
 use Rattle.df_model.specs.declared.reply.Reply.TheVariants.{Int}
 use Rattle.df_values.specs.declared.value.Value.TheVariants as values
 use Rattle.df_values.specs.declared.edit.Edit.TheVariants.{SetAt, InsertAt}
+use Rattle.df_values.specs.declared.change.Change.{Change}
 use Rattle.df_values.specs.declared.change.Change.TheVariants as changes
-use Rattle.df_values.specs.declared.change.Prepared.{Prepared}
-use Rattle.df_values.specs.Prepares.{Gives}
+use Rattle.df_values.specs.Prepares.{Makes}
 use Rattle.df_lists.proofs.ResizeLaws.{gives, suits_edit, suits_keep}
 use Rattle.df_model.specs.Values.{Bytes}
 use Rattle.df_model.specs.Words.{same}
@@ -82,7 +83,7 @@ pub insert_row : (beside : Beside) (p v : Bytes) (xs : List Bytes) (i : ℕ) →
 insert_row beside p v [] i is = cc
 insert_row beside p v (x ∷ xs) i is = rw (inserted_some beside p v (x ∷ xs) i is) refl
 
-pub insert_no_row : (beside : Beside) (p v : Bytes) (xs : List Bytes) → 0 < length xs → place_of p xs ≡ None → linsert beside p v xs ≡ (Int (negsuc 0), Change.Keep)
+pub insert_no_row : (beside : Beside) (p v : Bytes) (xs : List Bytes) → 0 < length xs → place_of p xs ≡ None → linsert beside p v xs ≡ (Int (negsuc 0), outcomes.Change.Keep)
 insert_no_row beside p v [] some is = absurd (omega arith)
 insert_no_row beside p v (x ∷ xs) some is = rw (inserted_none beside p v (x ∷ xs) is) refl
 
@@ -93,12 +94,12 @@ beside_within : (beside : Beside) (i n : ℕ) → i < n → beside_place beside 
 beside_within Before i n within = omega arith
 beside_within After i n within = omega arith
 
-pub insert_gives : (beside : Beside) (p v : Bytes) (xs : List Bytes) (list : Spared Bytes) (i k after : ℕ) (prepared : Prepared)
+pub insert_gives : (beside : Beside) (p v : Bytes) (xs : List Bytes) (list : Spared Bytes) (i k after : ℕ) (bytes : Bytes) (made : Change)
     → list.items ≡ xs → place_of p xs ≡ Some i → i < length xs → 0 < list.spare → after ≡ length xs + 1 → k ≡ beside_place beside i
-    → prepared.reply ≡ encoding_of (count after) → prepared.change ≡ changes.Edit (InsertAt k v)
-    → Gives (linsert beside p v xs) (Some (values.List list)) prepared
-insert_gives beside p v xs list i k after prepared same_list found within room more place replies makes =
-    gives (linsert beside p v xs) (count (length ys)) (stored ys) (Some (values.List list)) prepared (changes.Edit (InsertAt (beside_place beside i) v))
+    → bytes ≡ encoding_of (count after) → made ≡ changes.Edit (InsertAt k v)
+    → Makes (linsert beside p v xs) (Some (values.List list)) bytes made
+insert_gives beside p v xs list i k after bytes made same_list found within room more place replies makes =
+    gives (linsert beside p v xs) (count (length ys)) (stored ys) (Some (values.List list)) bytes made (changes.Edit (InsertAt (beside_place beside i) v))
     (insert_row beside p v xs i found)
     (replies ∙ ap (λ n. encoding_of (count n)) (more ∙ sym long))
     (makes ∙ ap (λ at. changes.Edit (InsertAt at v)) place)
@@ -127,17 +128,17 @@ get_set [] i v within = absurd (omega arith)
 get_set (x ∷ xs) zero v within = refl
 get_set (x ∷ xs) (suc i) v within = get_set xs i v (omega arith)
 
-pub set_keeps : (list : Spared Bytes) (i : ℕ) (v : Bytes) (prepared : Prepared) → i < length list.items → slice_get list.items i ≡ Some v
-    → prepared.reply ≡ encoding_of ok → prepared.change ≡ changes.Keep
-    → Gives (ok, stored (slice_set list.items i v)) (Some (values.List list)) prepared
-set_keeps list i v prepared within at replies makes =
-    gives (ok, stored (slice_set list.items i v)) ok (stored (slice_set list.items i v)) (Some (values.List list)) prepared changes.Keep refl replies makes
+pub set_keeps : (list : Spared Bytes) (i : ℕ) (v : Bytes) (bytes : Bytes) (made : Change) → i < length list.items → slice_get list.items i ≡ Some v
+    → bytes ≡ encoding_of ok → made ≡ changes.Keep
+    → Makes (ok, stored (slice_set list.items i v)) (Some (values.List list)) bytes made
+set_keeps list i v bytes made within at replies makes =
+    gives (ok, stored (slice_set list.items i v)) ok (stored (slice_set list.items i v)) (Some (values.List list)) bytes made changes.Keep refl replies makes
     (suits_keep list (slice_set list.items i v) (omega (arith, length-set list.items i v)) (set_same list.items i v at))
 
-pub set_edits : (list : Spared Bytes) (i : ℕ) (v : Bytes) (prepared : Prepared) → i < length list.items → (slice_get list.items i ≡ Some v → ⊥)
-    → prepared.reply ≡ encoding_of ok → prepared.change ≡ changes.Edit (SetAt i v)
-    → Gives (ok, stored (slice_set list.items i v)) (Some (values.List list)) prepared
-set_edits list i v prepared within other replies makes =
-    gives (ok, stored (slice_set list.items i v)) ok (stored (slice_set list.items i v)) (Some (values.List list)) prepared (changes.Edit (SetAt i v)) refl replies makes
+pub set_edits : (list : Spared Bytes) (i : ℕ) (v : Bytes) (bytes : Bytes) (made : Change) → i < length list.items → (slice_get list.items i ≡ Some v → ⊥)
+    → bytes ≡ encoding_of ok → made ≡ changes.Edit (SetAt i v)
+    → Makes (ok, stored (slice_set list.items i v)) (Some (values.List list)) bytes made
+set_edits list i v bytes made within other replies makes =
+    gives (ok, stored (slice_set list.items i v)) ok (stored (slice_set list.items i v)) (Some (values.List list)) bytes made (changes.Edit (SetAt i v)) refl replies makes
     (suits_edit list (slice_set list.items i v) (SetAt i v) (omega (arith, length-set list.items i v))
     (λ e. other (sym (ap (λ ys. slice_get ys i) e) ∙ get_set list.items i v within)) refl within)

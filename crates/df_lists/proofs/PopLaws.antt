@@ -5,7 +5,8 @@ use Rattle.std.proofs.lemmas.List.{length-reverse, length-drop, length-take, rev
 use Rattle.df_model.specs.Values.{Bytes}
 use Rattle.df_model.specs.Values as plain
 use Rattle.df_model.specs.Spared.{Spared}
-use Rattle.df_model.specs.Outcomes.{Change, bulks}
+use Rattle.df_model.specs.Outcomes.{bulks}
+use Rattle.df_model.specs.Outcomes as outcomes
 use Rattle.df_model.specs.Meaning.Lists.{stored, rpop}
 use Rattle.df_model.specs.Replies.{encoding_of}
 use Rattle.df_model.specs.declared.command.Side.{Side}
@@ -13,9 +14,9 @@ use Rattle.df_model.specs.declared.command.Side.TheVariants.{Left, Right}
 use Rattle.df_model.specs.declared.reply.Reply.TheVariants.{Bulk}
 use Rattle.df_values.specs.declared.value.Value.TheVariants as values
 use Rattle.df_values.specs.declared.edit.Edit.{Edit}
-use Rattle.df_values.specs.declared.change.Prepared.{Prepared}
 use Rattle.df_values.specs.Edits.{edited, IsPreparedOn}
-use Rattle.df_values.specs.Prepares.{Gives}
+use Rattle.df_values.specs.declared.change.Change.{Change}
+use Rattle.df_values.specs.Prepares.{Makes}
 use Rattle.df_lists.specs.Ends.{from_end, pop, pop_edit}
 use Rattle.df_lists.specs.Resized.{resized}
 use Rattle.df_lists.proofs.ResizeLaws.{resized_gives, stored_put}
@@ -47,7 +48,7 @@ behind n xs =
     let long : length (reverse (drop n zs)) ≡ length xs - n = length-reverse (drop n zs) ∙ length-drop n zs ∙ ap (λ m. m - n) (length-reverse xs) in
     sym (ap (take (length xs - n)) parts ∙ take_at (reverse (drop n zs)) (reverse (take n zs)) (length xs - n) long)
 
-turned_put : (y : Bytes) (rest : List Bytes) → Change.Put (plain.Value.Elements (reverse (y ∷ rest))) ≡ stored (reverse (y ∷ rest))
+turned_put : (y : Bytes) (rest : List Bytes) → outcomes.Change.Put (plain.Value.Elements (reverse (y ∷ rest))) ≡ stored (reverse (y ∷ rest))
 turned_put y rest = sym (stored_put (reverse (y ∷ rest)) (omega (arith, length-reverse (y ∷ rest))))
 
 rpop_one : (xs rest : List Bytes) (x : Bytes) → reverse xs ≡ x ∷ rest → rpop None xs ≡ (Bulk x, stored (reverse rest))
@@ -102,12 +103,12 @@ popped_none Right n xs none = take_all (length xs - n) xs (omega arith)
 
 -- ---- what the prepared commands promise
 
-pub one_gives : (side : Side) (list : Spared Bytes) (rest : List Bytes) (x : Bytes) (before after : ℕ) (edit : Edit) (prepared : Prepared)
+pub one_gives : (side : Side) (list : Spared Bytes) (rest : List Bytes) (x : Bytes) (before after : ℕ) (edit : Edit) (bytes : Bytes) (made : Change)
     → from_end side list.items ≡ x ∷ rest → before ≡ length list.items → after ≡ before - 1 → edit ≡ pop_edit side 1
-    → prepared.reply ≡ encoding_of (Bulk x) → prepared.change ≡ resized edit before after
-    → Gives (pop side None list.items) (Some (values.List list)) prepared
-one_gives side list rest x before after edit prepared is was left pops replies makes =
-    resized_gives (pop side None list.items) (Bulk x) list (popped side 1 list.items) (pop_edit side 1) before after prepared
+    → bytes ≡ encoding_of (Bulk x) → made ≡ resized edit before after
+    → Makes (pop side None list.items) (Some (values.List list)) bytes made
+one_gives side list rest x before after edit bytes made is was left pops replies makes =
+    resized_gives (pop side None list.items) (Bulk x) list (popped side 1 list.items) (pop_edit side 1) before after bytes made
     (one_row side list.items rest x is)
     replies
     (makes ∙ ap (λ e. resized e before after) pops)
@@ -118,12 +119,12 @@ some_first : (xs : List Bytes) → 0 < length xs → (z : Bytes) × ((zs : List 
 some_first [] some = absurd (omega arith)
 some_first (x ∷ xs) some = (x, (xs, refl))
 
-pub many_gives : (side : Side) (list : Spared Bytes) (n m before after : ℕ) (edit : Edit) (prepared : Prepared)
+pub many_gives : (side : Side) (list : Spared Bytes) (n m before after : ℕ) (edit : Edit) (bytes : Bytes) (made : Change)
     → 0 < length list.items → before ≡ length list.items → m ≡ min n before → after ≡ before - m → edit ≡ pop_edit side m
-    → prepared.reply ≡ encoding_of (bulks (take m (from_end side list.items))) → prepared.change ≡ resized edit before after
-    → Gives (pop side (Some (pos n)) list.items) (Some (values.List list)) prepared
-many_gives side list n m before after edit prepared some was least left pops replies makes =
-    resized_gives (pop side (Some (pos n)) list.items) (bulks (take n (from_end side list.items))) list (popped side m list.items) (pop_edit side m) before after prepared
+    → bytes ≡ encoding_of (bulks (take m (from_end side list.items))) → made ≡ resized edit before after
+    → Makes (pop side (Some (pos n)) list.items) (Some (values.List list)) bytes made
+many_gives side list n m before after edit bytes made some was least left pops replies makes =
+    resized_gives (pop side (Some (pos n)) list.items) (bulks (take n (from_end side list.items))) list (popped side m list.items) (pop_edit side m) before after bytes made
     (many_row side n list.items first.1.0 first.0 first.1.1 ∙ ap (λ ys. (bulks (take n (from_end side list.items)), stored ys)) (sym (least_popped side n list.items) ∙ ap (λ k. popped side k list.items) (sym within)))
     (replies ∙ ap (λ ys. encoding_of (bulks ys)) (least_taken side n m list.items within))
     (makes ∙ ap (λ e. resized e before after) pops)

@@ -13,10 +13,10 @@ use Rattle.df_model.specs.declared.command.Side.TheVariants.{Left, Right}
 use Rattle.df_values.specs.declared.value.Value.{Value}
 use Rattle.df_values.specs.declared.value.Value.TheVariants as values
 use Rattle.df_values.specs.declared.edit.Edit.{Edit}
+use Rattle.df_values.specs.declared.change.Change.{Change}
 use Rattle.df_values.specs.declared.change.Change.TheVariants as changes
-use Rattle.df_values.specs.declared.change.Prepared.{Prepared}
 use Rattle.df_values.specs.Edits.{edited, IsPreparedOn}
-use Rattle.df_values.specs.Prepares.{Gives}
+use Rattle.df_values.specs.Prepares.{Makes}
 use Rattle.df_values.specs.Seen.{seen}
 use Rattle.df_lists.specs.Ends.{push, push_edit}
 use Rattle.df_lists.specs.Resized.{resized}
@@ -49,13 +49,13 @@ push_fits Left words list room = room
 push_fits Right words list room = room
 
 -- on a list
-pub push_gives : (side : Side) (words list : Spared Bytes) (xs : List Bytes) (before after : ℕ) (edit : Edit) (prepared : Prepared)
+pub push_gives : (side : Side) (words list : Spared Bytes) (xs : List Bytes) (before after : ℕ) (edit : Edit) (bytes : Bytes) (made : Change)
     → list.items ≡ xs → before ≡ length xs → after ≡ before + length words.items → length words.items ≤ list.spare → edit ≡ push_edit side words
-    → prepared.reply ≡ encoding_of (count after) → prepared.change ≡ resized edit before after
-    → Gives (push side words.items xs) (Some (values.List list)) prepared
-push_gives side words list xs before after edit prepared is was sum room pushes replies makes =
-    subst (λ (ys : List Bytes). Gives (push side words.items ys) (Some (values.List list)) prepared) is
-    (resized_gives (push side words.items list.items) (count (length (pushed side words.items list.items))) list (pushed side words.items list.items) (push_edit side words) before after prepared
+    → bytes ≡ encoding_of (count after) → made ≡ resized edit before after
+    → Makes (push side words.items xs) (Some (values.List list)) bytes made
+push_gives side words list xs before after edit bytes made is was sum room pushes replies makes =
+    subst (λ (ys : List Bytes). Makes (push side words.items ys) (Some (values.List list)) bytes made) is
+    (resized_gives (push side words.items list.items) (count (length (pushed side words.items list.items))) list (pushed side words.items list.items) (push_edit side words) before after bytes made
     (push_is side words.items list.items)
     (replies ∙ ap (λ n. encoding_of (count n)) long)
     (makes ∙ ap (λ e. resized e before after) pushes)
@@ -69,12 +69,12 @@ push_gives side words list xs before after edit prepared is was sum room pushes 
     long = omega (arith, length-pushed side words.items list.items, here, sum)
 
 -- on nothing
-pub push_puts : (side : Side) (words : Spared Bytes) (old new : Value) (prepared : Prepared)
+pub push_puts : (side : Side) (words : Spared Bytes) (old new : Value) (bytes : Bytes) (made : Change)
     → 0 < length words.items → seen old ≡ plain.Value.Elements [] → seen new ≡ edited (push_edit side words) (seen old)
-    → prepared.reply ≡ encoding_of (count (length words.items)) → prepared.change ≡ changes.Put new
-    → Gives (push side words.items []) None prepared
-push_puts side words old new prepared some empty is replies makes =
-    gives (push side words.items []) (count (length (pushed side words.items []))) (stored (pushed side words.items [])) None prepared (changes.Put new)
+    → bytes ≡ encoding_of (count (length words.items)) → made ≡ changes.Put new
+    → Makes (push side words.items []) None bytes made
+push_puts side words old new bytes made some empty is replies makes =
+    gives (push side words.items []) (count (length (pushed side words.items []))) (stored (pushed side words.items [])) None bytes made (changes.Put new)
     (push_is side words.items [])
     (replies ∙ ap (λ n. encoding_of (count n)) long)
     makes

@@ -11,8 +11,8 @@ use Rattle.df_model.specs.Outcomes.{count, ok}
 use Rattle.df_model.specs.Replies.{encoding_of}
 use Rattle.df_values.specs.declared.value.Value.TheVariants as values
 use Rattle.df_values.specs.declared.edit.Edit.TheVariants.{RemoveEqual, Trim}
-use Rattle.df_values.specs.declared.change.Prepared.{Prepared}
-use Rattle.df_values.specs.Prepares.{Gives}
+use Rattle.df_values.specs.declared.change.Change.{Change}
+use Rattle.df_values.specs.Prepares.{Makes}
 use Rattle.df_lists.specs.Resized.{resized}
 use Rattle.df_lists.proofs.RangeLaws.{length-range, stop_within, range_all}
 use Rattle.df_lists.proofs.ResizeLaws.{resized_gives}
@@ -98,22 +98,22 @@ pub removed_all : (removed most : ℕ) (n : ℤ) (v : Bytes) (xs : List Bytes) �
 removed_all removed most n v xs none all counted =
     ap (λ ys. removed + length ys) (ap (λ m. without m v xs) none ∙ sym (without_all most v xs (omega arith))) ∙ counted
 
-pub remove_gives : (n : ℤ) (v : Bytes) (list : Spared Bytes) (removed before after : ℕ) (prepared : Prepared)
+pub remove_gives : (n : ℤ) (v : Bytes) (list : Spared Bytes) (removed before after : ℕ) (bytes : Bytes) (made : Change)
     → removed + length (without n v list.items) ≡ length list.items → before ≡ length list.items → after ≡ before - removed
-    → prepared.reply ≡ encoding_of (count removed) → prepared.change ≡ resized (RemoveEqual v n) before after
-    → Gives (lrem n v list.items) (Some (values.List list)) prepared
-remove_gives n v list removed before after prepared counted was left replies makes =
+    → bytes ≡ encoding_of (count removed) → made ≡ resized (RemoveEqual v n) before after
+    → Makes (lrem n v list.items) (Some (values.List list)) bytes made
+remove_gives n v list removed before after bytes made counted was left replies makes =
     let gone : removed ≡ length list.items - length (without n v list.items) = omega arith in
-    resized_gives (lrem n v list.items) (count removed) list (without n v list.items) (RemoveEqual v n) before after prepared
+    resized_gives (lrem n v list.items) (count removed) list (without n v list.items) (RemoveEqual v n) before after bytes made
     (ap (λ m. (count m, stored (without n v list.items))) (sym gone)) replies makes was (omega arith) refl tt (without_same n v list.items)
 
-pub trim_gives : (from to : ℤ) (list : Spared Bytes) (before after : ℕ) (prepared : Prepared)
+pub trim_gives : (from to : ℤ) (list : Spared Bytes) (before after : ℕ) (bytes : Bytes) (made : Change)
     → before ≡ length list.items → after ≡ ranges.stop to before - ranges.start from before
-    → prepared.reply ≡ encoding_of ok → prepared.change ≡ resized (Trim from to) before after
-    → Gives (ltrim from to list.items) (Some (values.List list)) prepared
-trim_gives from to list before after prepared was left replies makes =
+    → bytes ≡ encoding_of ok → made ≡ resized (Trim from to) before after
+    → Makes (ltrim from to list.items) (Some (values.List list)) bytes made
+trim_gives from to list before after bytes made was left replies makes =
     let n : ℕ = length list.items in
-    resized_gives (ltrim from to list.items) ok list (ranges.ranged from to list.items) (Trim from to) before after prepared
+    resized_gives (ltrim from to list.items) ok list (ranges.ranged from to list.items) (Trim from to) before after bytes made
     refl replies makes was
     (left ∙ ap (λ m. ranges.stop to m - ranges.start from m) was ∙ sym (length-range (ranges.start from n) (ranges.stop to n) list.items (stop_within to n)))
     refl tt (range_all (ranges.start from n) (ranges.stop to n) list.items (stop_within to n))

@@ -15,9 +15,8 @@ use Rattle.df_values.specs.declared.value.Value.TheVariants as values
 use Rattle.df_values.specs.declared.edit.Edit.{Edit}
 use Rattle.df_values.specs.declared.change.Change.{Change}
 use Rattle.df_values.specs.declared.change.Change.TheVariants as changes
-use Rattle.df_values.specs.declared.change.Prepared.{Prepared}
 use Rattle.df_values.specs.Edits.{applied, edited, Fits, Alters, IsPreparedOn}
-use Rattle.df_values.specs.Prepares.{Gives}
+use Rattle.df_values.specs.Prepares.{Makes}
 use Rattle.df_values.specs.Seen.{seen_held}
 use Rattle.df_lists.specs.Resized.{resized}
 
@@ -38,10 +37,10 @@ pub record Suits (new : outcomes.Change) (held : Option Value) (change : Change)
   pub fits : Fits change held
   pub alters : Alters change (seen_held held)
 
-pub gives : (row : Outcome) (reply : Reply) (new : outcomes.Change) (held : Option Value) (prepared : Prepared) (change : Change)
-    → row ≡ (reply, new) → prepared.reply ≡ encoding_of reply → prepared.change ≡ change → Suits new held change → Gives row held prepared
-gives row reply new held prepared change is replies makes suits =
-    subst (λ (r : Outcome). Gives r held prepared) (sym is) (record {
+pub gives : (row : Outcome) (reply : Reply) (new : outcomes.Change) (held : Option Value) (bytes : Bytes) (made change : Change)
+    → row ≡ (reply, new) → bytes ≡ encoding_of reply → made ≡ change → Suits new held change → Makes row held bytes made
+gives row reply new held bytes made change is replies makes suits =
+    subst (λ (r : Outcome). Makes r held bytes made) (sym is) (record {
       reply = replies;
       change = ap (λ made. applied made (seen_held held)) makes ∙ suits.is;
       fits = subst (λ (made : Change). Fits made held) (sym makes) suits.fits;
@@ -49,10 +48,10 @@ gives row reply new held prepared change is replies makes suits =
     })
 
 -- a reply alone
-pub keeps : (row : Outcome) (reply : Reply) (held : Option Value) (prepared : Prepared)
-    → row ≡ (reply, outcomes.Change.Keep) → prepared.reply ≡ encoding_of reply → prepared.change ≡ changes.Keep → Gives row held prepared
-keeps row reply held prepared is replies makes =
-    gives row reply outcomes.Change.Keep held prepared changes.Keep is replies makes (record { is = refl; fits = tt; alters = tt })
+pub keeps : (row : Outcome) (reply : Reply) (held : Option Value) (bytes : Bytes) (made : Change)
+    → row ≡ (reply, outcomes.Change.Keep) → bytes ≡ encoding_of reply → made ≡ changes.Keep → Makes row held bytes made
+keeps row reply held bytes made is replies makes =
+    gives row reply outcomes.Change.Keep held bytes made changes.Keep is replies makes (record { is = refl; fits = tt; alters = tt })
 
 -- an edit that gives another list, which isn't empty
 pub suits_edit : (list : Spared Bytes) (ys : List Bytes) (edit : Edit) → 0 < length ys → (ys ≡ list.items → ⊥)
@@ -96,11 +95,11 @@ suits_resized list ys edit before after was is does fits same =
           | inr other ↦ subst (λ b. Suits (stored ys) (Some (values.List list)) (if b then changes.Keep else changes.Edit edit)) (sym other.0) (suits_edit list ys edit more (λ e. other.1 (is ∙ ap length e ∙ sym was)) does fits)
         ]
 
-pub resized_gives : (row : Outcome) (reply : Reply) (list : Spared Bytes) (ys : List Bytes) (edit : Edit) (before after : ℕ) (prepared : Prepared)
-    → row ≡ (reply, stored ys) → prepared.reply ≡ encoding_of reply → prepared.change ≡ resized edit before after
+pub resized_gives : (row : Outcome) (reply : Reply) (list : Spared Bytes) (ys : List Bytes) (edit : Edit) (before after : ℕ) (bytes : Bytes) (made : Change)
+    → row ≡ (reply, stored ys) → bytes ≡ encoding_of reply → made ≡ resized edit before after
     → before ≡ length list.items → after ≡ length ys
     → edited edit (plain.Value.Elements list.items) ≡ plain.Value.Elements ys → IsPreparedOn edit (values.List list)
     → (length ys ≡ length list.items → ys ≡ list.items)
-    → Gives row (Some (values.List list)) prepared
-resized_gives row reply list ys edit before after prepared row_is replies makes was is does fits same =
-    gives row reply (stored ys) (Some (values.List list)) prepared (resized edit before after) row_is replies makes (suits_resized list ys edit before after was is does fits same)
+    → Makes row (Some (values.List list)) bytes made
+resized_gives row reply list ys edit before after bytes made row_is replies makes was is does fits same =
+    gives row reply (stored ys) (Some (values.List list)) bytes made (resized edit before after) row_is replies makes (suits_resized list ys edit before after was is does fits same)

@@ -6,8 +6,8 @@ use Rattle.df_model.specs.declared.command.Family.{Family}
 use Rattle.df_model.specs.declared.command.Family.TheVariants.{Any, Strings, Lists, Hashes, Sets}
 use Rattle.std.specs.Prelude.{Some}
 use Rattle.df_values.specs.declared.value.Value.TheVariants as values
-use Rattle.df_values.specs.declared.change.Prepared.{Prepared}
-use Rattle.df_values.specs.Prepares.{Gives}
+use Rattle.df_values.specs.declared.change.Change.{Change}
+use Rattle.df_values.specs.Prepares.{Makes}
 
 abbrev pub Serves : Family → Type 0
 Serves Any = ⊥
@@ -17,5 +17,5 @@ Serves Hashes = ⊥
 Serves Sets = ⊥
 
 -- the key holds this list
-abbrev pub GivesOn : Outcome → Spared Bytes → Prepared → Type 0
-GivesOn outcome list prepared = Gives outcome (Some (values.List list)) prepared
+abbrev pub MakesOn : Outcome → Spared Bytes → Bytes → Change → Type 0
+MakesOn outcome list reply change = Makes outcome (Some (values.List list)) reply change

@@ -1,15 +1,15 @@
 //! What is held is told apart, then the command.
 
-ghost use Rattle.std.specs.Prelude.{◌≡◌, [], IfOk, Some, None};
+ghost use Rattle.std.specs.Prelude.{◌≡◌, [], IfOk, OnOk, Some, None};
 ghost use Rattle.df_model.specs.Values as plain;
 ghost use Rattle.df_model.specs.Families.{family_of};
 ghost use Rattle.df_model.specs.Meaning.{one};
 ghost use Rattle.df_model.specs.Outcomes.{outcome, bulks};
 ghost use Rattle.df_model.specs.Replies.{encoding_of};
 ghost use Rattle.df_values.specs.Lent.{lent, left};
-ghost use Rattle.df_values.specs.Prepares.{Gives};
+ghost use Rattle.df_values.specs.Prepares.{Makes};
 ghost use Rattle.df_values.specs.Seen.{seen, seen_held};
-ghost use Rattle.df_lists.specs.Serves.{Serves, GivesOn};
+ghost use Rattle.df_lists.specs.Serves.{Serves, MakesOn};
 
 use crate::look::{lindex, llen, lrange};
 use crate::place_in::{linsert, lset};
@@ -18,87 +18,96 @@ use crate::push::{push, push_to_nothing, pushx};
 use crate::removal::{lrem, ltrim};
 use df_list::ListVal;
 use df_model::{ErrorText, NoMemory, OneOp, Side};
-use df_values::{Pieces, Prepared, Value};
+use df_values::{Change, Pieces, Value};
 use std::alloc::Global;
 
-/// Prepares a command of the family of lists on what its key holds. Only spare room changes, also where
-/// memory runs out. Stored words are moved.
-pub fn prepare(alloc: Global, op: OneOp, value: Option<&mut Value>) -> Result<Prepared, NoMemory>
-    requires family { Serves (family_of op) }
-    ensures ok { IfOk result (λ prepared. Gives (outcome (one op) (seen_held (lent value.entry))) (left value.exit) prepared) }
+/// Makes a command ready on what its key holds. The reply takes the place of the bytes that stood in `reply`.
+/// The op may be emptied, since its words are moved out. At want of memory nothing is said of the reply and the
+/// op, and of the value only spare room changed.
+pub fn prepare_into(
+    alloc: Global,
+    op: &mut OneOp,
+    value: Option<&mut Value>,
+    reply: &mut Pieces,
+) -> Result<Change, NoMemory>
+    requires { Serves (family_of op.old) }
+    ensures ok { IfOk result (λ change. Makes (outcome (one op.old) (seen_held (lent value.entry))) (left value.exit) reply.new change) }
     ensures kept { seen_held (left value.exit) ≡ seen_held (lent value.entry) }
 {
     match value {
-        None => on_nothing(alloc, op),
-        Some(value) => on_value(alloc, op, value),
+        None => on_missing(alloc, op, reply),
+        Some(value) => on_held(op, value, reply),
     }
 }
 
-fn on_value(alloc: Global, op: OneOp, value: &mut Value) -> Result<Prepared, NoMemory>
-    requires { Serves (family_of op) }
-    ensures ok { IfOk result (λ prepared. Gives (outcome (one op) (Some (seen value.old))) (Some value.new) prepared) }
+fn on_held(op: &mut OneOp, value: &mut Value, reply: &mut Pieces) -> Result<Change, NoMemory>
+    requires { Serves (family_of op.old) }
+    ensures ok { IfOk result (λ change. Makes (outcome (one op.old) (Some (seen value.old))) (Some value.new) reply.new change) }
     ensures kept { seen value.new ≡ seen value.old }
 {
     match value {
-        Value::List(list) => on_list(alloc, op, list),
-        _ => Prepared::refuse(alloc, &ErrorText::WrongKind),
+        Value::List(list) => on_list(op, list, reply),
+        _ => {
+            reply.put_error(&ErrorText::WrongKind)?;
+            Ok(Change::Keep)
+        }
     }
 }
 
-fn on_nothing(alloc: Global, op: OneOp) -> Result<Prepared, NoMemory>
-    requires { Serves (family_of op) }
-    ensures { IfOk result (λ prepared. Gives (outcome (one op) None) None prepared) }
+fn on_missing(alloc: Global, op: &mut OneOp, reply: &mut Pieces) -> Result<Change, NoMemory>
+    requires { Serves (family_of op.old) }
+    ensures { IfOk result (λ change. Makes (outcome (one op.old) None) None reply.new change) }
 {
     match op {
-        OneOp::Lpush(words) => push_to_nothing(alloc, Side::Left, words),
-        OneOp::Rpush(words) => push_to_nothing(alloc, Side::Right, words),
-        OneOp::Lpop(None) | OneOp::Rpop(None) | OneOp::Lindex(_) => {
-            Ok(Prepared::keep(Pieces::of_null(alloc)?))
-        }
-        OneOp::Lpop(Some(_)) | OneOp::Rpop(Some(_)) => {
-            Ok(Prepared::keep(Pieces::of_null_array(alloc)?))
-        }
+        OneOp::Lpush(words) => return push_to_nothing(alloc, Side::Left, words.take(), reply),
+        OneOp::Rpush(words) => return push_to_nothing(alloc, Side::Right, words.take(), reply),
+        OneOp::Lpop(None) | OneOp::Rpop(None) | OneOp::Lindex(_) => reply.put_null()?,
+        OneOp::Lpop(Some(_)) | OneOp::Rpop(Some(_)) => reply.put_null_array()?,
         OneOp::Lpushx(_)
         | OneOp::Rpushx(_)
         | OneOp::Llen
         | OneOp::Linsert(_, _, _)
-        | OneOp::Lrem(_, _) => Ok(Prepared::keep(Pieces::of_count(alloc, 0)?)),
-        OneOp::Lrange(_, _) => Ok(Prepared::keep(no_elements(alloc)?)),
-        OneOp::Lset(_, _) => Prepared::refuse(alloc, &ErrorText::NoSuchKey),
-        OneOp::Ltrim(_, _) => Ok(Prepared::keep(Pieces::of_ok(alloc)?)),
+        | OneOp::Lrem(_, _) => reply.put_count(0)?,
+        OneOp::Lrange(_, _) => no_elements(reply)?,
+        OneOp::Lset(_, _) => reply.put_error(&ErrorText::NoSuchKey)?,
+        OneOp::Ltrim(_, _) => reply.put_ok()?,
         _ => unreachable!(),
     }
+    Ok(Change::Keep)
 }
 
-fn on_list(alloc: Global, op: OneOp, list: &mut ListVal) -> Result<Prepared, NoMemory>
-    requires { Serves (family_of op) }
-    ensures ok { IfOk result (λ prepared. GivesOn (outcome (one op) (Some (plain.Value.Elements list.old.items))) list.new prepared) }
+fn on_list(op: &mut OneOp, list: &mut ListVal, reply: &mut Pieces) -> Result<Change, NoMemory>
+    requires { Serves (family_of op.old) }
+    ensures ok { IfOk result (λ change. MakesOn (outcome (one op.old) (Some (plain.Value.Elements list.old.items))) list.new reply.new change) }
     ensures kept { list.new.items ≡ list.old.items }
 {
     match op {
-        OneOp::Lpush(words) => push(alloc, Side::Left, words, list),
-        OneOp::Rpush(words) => push(alloc, Side::Right, words, list),
-        OneOp::Lpushx(words) => pushx(alloc, Side::Left, words, list),
-        OneOp::Rpushx(words) => pushx(alloc, Side::Right, words, list),
-        OneOp::Lpop(count) => pop(alloc, Side::Left, count, list),
-        OneOp::Rpop(count) => pop(alloc, Side::Right, count, list),
-        OneOp::Llen => llen(alloc, list),
-        OneOp::Lrange(from, to) => lrange(alloc, from, to, list),
-        OneOp::Lindex(at) => lindex(alloc, at, list),
-        OneOp::Lset(at, element) => lset(alloc, at, element, list),
+        OneOp::Lpush(words) => return push(Side::Left, words.take(), list, reply),
+        OneOp::Rpush(words) => return push(Side::Right, words.take(), list, reply),
+        OneOp::Lpushx(words) => return pushx(Side::Left, words.take(), list, reply),
+        OneOp::Rpushx(words) => return pushx(Side::Right, words.take(), list, reply),
+        OneOp::Lpop(count) => return pop(Side::Left, *count, list, reply),
+        OneOp::Rpop(count) => return pop(Side::Right, *count, list, reply),
+        OneOp::Llen => llen(list, reply)?,
+        &mut OneOp::Lrange(from, to) => lrange(from, to, list, reply)?,
+        OneOp::Lindex(at) => lindex(*at, list, reply)?,
+        &mut OneOp::Lset(at, ref mut element) => return lset(at, element.take(), list, reply),
         OneOp::Linsert(beside, pivot, element) => {
-            linsert(alloc, beside, pivot.as_slice(), element, list)
+            return linsert(*beside, pivot.as_slice(), element.take(), list, reply);
         }
-        OneOp::Lrem(count, element) => lrem(alloc, count, element, list),
-        OneOp::Ltrim(from, to) => ltrim(alloc, from, to, list),
+        &mut OneOp::Lrem(count, ref mut element) => {
+            return lrem(count, element.take(), list, reply);
+        }
+        &mut OneOp::Ltrim(from, to) => return ltrim(from, to, list, reply),
         _ => unreachable!(),
     }
+    Ok(Change::Keep)
 }
 
-fn no_elements(alloc: Global) -> Result<Pieces, NoMemory>
-    ensures { IfOk result (λ pieces. pieces ≡ encoding_of (bulks [])) }
+/// An array of nothing.
+fn no_elements(reply: &mut Pieces) -> Result<(), NoMemory>
+    ensures { OnOk result (reply.new ≡ encoding_of (bulks [])) }
 {
-    let mut pieces = Pieces::new(alloc);
-    pieces.add_array_head(0)?;
-    Ok(pieces)
+    reply.put_array_head(0)?;
+    Ok(())
 }

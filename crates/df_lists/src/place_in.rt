@@ -4,40 +4,38 @@ ghost use Rattle.std.specs.Prelude.{◌≡◌, ◌+◌, ◌^◌, ◌<◌, length
 ghost use Rattle.df_model.specs.Meaning.Lists as rows;
 ghost use Rattle.df_model.specs.Outcomes as outcomes;
 ghost use Rattle.df_lists.specs.Places.{place_of, beside_place};
-ghost use Rattle.df_lists.specs.Serves.{GivesOn};
+ghost use Rattle.df_lists.specs.Serves.{MakesOn};
 
 use crate::resize::sum;
 use df_list::ListVal;
 use df_model::{Beside, Bin, ErrorText, NoMemory};
 use df_text::place;
-use df_values::{Change, Edit, Pieces, Prepared};
-use std::alloc::Global;
+use df_values::{Change, Edit, Pieces};
 
 /// An element takes the place of another.
-pub fn lset(alloc: Global, at: i64, element: Bin, list: &ListVal) -> Result<Prepared, NoMemory>
-    ensures { IfOk result (λ prepared. GivesOn (rows.lset at element list.now.items) list.now prepared) }
+pub fn lset(at: i64, element: Bin, list: &ListVal, reply: &mut Pieces) -> Result<Change, NoMemory>
+    ensures { IfOk result (λ change. MakesOn (rows.lset at element list.now.items) list.now reply.new change) }
 {
     if list.is_empty() {
-        return Prepared::refuse(alloc, &ErrorText::NoSuchKey);
+        reply.put_error(&ErrorText::NoSuchKey)?;
+        return Ok(Change::Keep);
     }
     let Some(at) = place(at, list.len()) else {
-        return Prepared::refuse(alloc, &ErrorText::IndexRange);
+        reply.put_error(&ErrorText::IndexRange)?;
+        return Ok(Change::Keep);
     };
-    set_at(alloc, at, element, list)
+    set_at(at, element, list, reply)
 }
 
-fn set_at(alloc: Global, at: usize, element: Bin, list: &ListVal) -> Result<Prepared, NoMemory>
+fn set_at(at: usize, element: Bin, list: &ListVal, reply: &mut Pieces) -> Result<Change, NoMemory>
     requires { at < length list.now.items }
-    ensures { IfOk result (λ prepared. GivesOn (outcomes.ok, rows.stored (slice_set list.now.items at element)) list.now prepared) }
+    ensures { IfOk result (λ change. MakesOn (outcomes.ok, rows.stored (slice_set list.now.items at element)) list.now reply.new change) }
 {
-    let reply = Pieces::of_ok(alloc)?;
+    reply.put_ok()?;
     if is_at(list, at, element.as_slice()) {
-        return Ok(Prepared::keep(reply));
+        return Ok(Change::Keep);
     }
-    Ok(Prepared {
-        reply,
-        change: Change::Edit(Edit::SetAt(at as u64, element)),
-    })
+    Ok(Change::Edit(Edit::SetAt(at as u64, element)))
 }
 
 /// Whether the element at this place equals these bytes.
@@ -52,28 +50,27 @@ fn is_at(list: &ListVal, at: usize, bytes: &[u8]) -> bool
 
 /// An element comes beside the first that equals the pivot.
 pub fn linsert(
-    alloc: Global,
     beside: Beside,
     pivot: &[u8],
     element: Bin,
     list: &mut ListVal,
-) -> Result<Prepared, NoMemory>
-    ensures ok { IfOk result (λ prepared. GivesOn (rows.linsert beside pivot.now element list.old.items) list.new prepared) }
+    reply: &mut Pieces,
+) -> Result<Change, NoMemory>
+    ensures ok { IfOk result (λ change. MakesOn (rows.linsert beside pivot.now element list.old.items) list.new reply.new change) }
     ensures kept { list.new.items ≡ list.old.items }
 {
     if list.is_empty() {
-        return Ok(Prepared::keep(Pieces::of_count(alloc, 0)?));
+        reply.put_count(0)?;
+        return Ok(Change::Keep);
     }
     let Some(at) = position(list, pivot) else {
-        return Ok(Prepared::keep(Pieces::of_int(alloc, -1)?));
+        reply.put_int(-1)?;
+        return Ok(Change::Keep);
     };
     let after = sum(list.len(), 1)?;
     list.reserve(1)?;
-    let reply = Pieces::of_count(alloc, after)?;
-    Ok(Prepared {
-        reply,
-        change: Change::Edit(Edit::InsertAt(place_beside(beside, at) as u64, element)),
-    })
+    reply.put_count(after)?;
+    Ok(Change::Edit(Edit::InsertAt(place_beside(beside, at) as u64, element)))
 }
 
 fn place_beside(beside: Beside, at: usize) -> usize

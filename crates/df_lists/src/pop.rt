@@ -2,57 +2,57 @@
 
 ghost use Rattle.std.specs.Prelude.{◌≡◌, ℤ, pos, IfOk, Some, None};
 ghost use Rattle.df_lists.specs.Ends as ends;
-ghost use Rattle.df_lists.specs.Serves.{GivesOn};
+ghost use Rattle.df_lists.specs.Serves.{MakesOn};
 
 use crate::look::{element_from, elements};
 use crate::resize::resized;
 use df_list::ListVal;
 use df_model::{NoMemory, Side};
-use df_values::{Edit, Pieces, Prepared};
-use std::alloc::Global;
+use df_values::{Change, Edit, Pieces};
 
 /// An element leaves at this end, or as many as the count says, the outermost first.
 pub fn pop(
-    alloc: Global,
     side: Side,
     count: Option<i64>,
     list: &ListVal,
-) -> Result<Prepared, NoMemory>
-    ensures { IfOk result (λ prepared. GivesOn (ends.pop side count list.now.items) list.now prepared) }
+    reply: &mut Pieces,
+) -> Result<Change, NoMemory>
+    ensures { IfOk result (λ change. MakesOn (ends.pop side count list.now.items) list.now reply.new change) }
 {
     match count {
-        None => pop_one(alloc, side, list),
-        Some(count) => pop_many(alloc, side, count.unsigned_abs() as usize, list),
+        None => pop_one(side, list, reply),
+        Some(count) => pop_many(side, count.unsigned_abs() as usize, list, reply),
     }
 }
 
-fn pop_one(alloc: Global, side: Side, list: &ListVal) -> Result<Prepared, NoMemory>
-    ensures { IfOk result (λ prepared. GivesOn (ends.pop side None list.now.items) list.now prepared) }
+fn pop_one(side: Side, list: &ListVal, reply: &mut Pieces) -> Result<Change, NoMemory>
+    ensures { IfOk result (λ change. MakesOn (ends.pop side None list.now.items) list.now reply.new change) }
 {
     let Some(element) = element_from(list, side, 0) else {
-        return Ok(Prepared::keep(Pieces::of_null(alloc)?));
+        reply.put_null()?;
+        return Ok(Change::Keep);
     };
-    let reply = Pieces::of_bulk(alloc, element.as_slice())?;
+    reply.put_bulk(element.as_slice())?;
     let before = list.len();
-    Ok(Prepared {
-        reply,
-        change: resized(edit_of(side, 1), before, before.saturating_sub(1)),
-    })
+    Ok(resized(edit_of(side, 1), before, before.saturating_sub(1)))
 }
 
-fn pop_many(alloc: Global, side: Side, count: usize, list: &ListVal) -> Result<Prepared, NoMemory>
-    ensures { IfOk result (λ prepared. GivesOn (ends.pop side (Some (pos count)) list.now.items) list.now prepared) }
+fn pop_many(
+    side: Side,
+    count: usize,
+    list: &ListVal,
+    reply: &mut Pieces,
+) -> Result<Change, NoMemory>
+    ensures { IfOk result (λ change. MakesOn (ends.pop side (Some (pos count)) list.now.items) list.now reply.new change) }
 {
     if list.is_empty() {
-        return Ok(Prepared::keep(Pieces::of_null_array(alloc)?));
+        reply.put_null_array()?;
+        return Ok(Change::Keep);
     }
     let before = list.len();
     let popped = count.min(before);
-    let reply = elements(alloc, list, side, 0, popped)?;
-    Ok(Prepared {
-        reply,
-        change: resized(edit_of(side, popped), before, before - popped),
-    })
+    elements(side, 0, popped, list, reply)?;
+    Ok(resized(edit_of(side, popped), before, before - popped))
 }
 
 fn edit_of(side: Side, count: usize) -> Edit

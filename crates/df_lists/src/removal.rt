@@ -3,28 +3,29 @@
 ghost use Rattle.std.specs.Prelude.{◌≡◌, ◌+◌, length, IfOk};
 ghost use Rattle.df_model.specs.Meaning.Lists as rows;
 ghost use Rattle.df_lists.specs.Ends.{from_end};
-ghost use Rattle.df_lists.specs.Serves.{GivesOn};
+ghost use Rattle.df_lists.specs.Serves.{MakesOn};
 
 use crate::look::element_from;
 use crate::resize::resized;
 use df_list::ListVal;
 use df_model::{Bin, NoMemory, Side};
 use df_text::ends;
-use df_values::{Edit, Pieces, Prepared};
-use std::alloc::Global;
+use df_values::{Change, Edit, Pieces};
 
 /// The first elements that equal this one leave, the last ones where the count is negative, all where it
 /// is 0.
-pub fn lrem(alloc: Global, count: i64, element: Bin, list: &ListVal) -> Result<Prepared, NoMemory>
-    ensures { IfOk result (λ prepared. GivesOn (rows.lrem count element list.now.items) list.now prepared) }
+pub fn lrem(
+    count: i64,
+    element: Bin,
+    list: &ListVal,
+    reply: &mut Pieces,
+) -> Result<Change, NoMemory>
+    ensures { IfOk result (λ change. MakesOn (rows.lrem count element list.now.items) list.now reply.new change) }
 {
     let before = list.len();
     let removed = removed_by(list, element.as_slice(), count);
-    let reply = Pieces::of_count(alloc, removed)?;
-    Ok(Prepared {
-        reply,
-        change: resized(Edit::RemoveEqual(element, count), before, before - removed),
-    })
+    reply.put_count(removed)?;
+    Ok(resized(Edit::RemoveEqual(element, count), before, before - removed))
 }
 
 /// How many elements would leave.
@@ -61,15 +62,12 @@ fn equal_from(list: &ListVal, side: Side, element: &[u8], most: usize) -> usize
 }
 
 /// A range is kept.
-pub fn ltrim(alloc: Global, from: i64, to: i64, list: &ListVal) -> Result<Prepared, NoMemory>
-    ensures { IfOk result (λ prepared. GivesOn (rows.ltrim from to list.now.items) list.now prepared) }
+pub fn ltrim(from: i64, to: i64, list: &ListVal, reply: &mut Pieces) -> Result<Change, NoMemory>
+    ensures { IfOk result (λ change. MakesOn (rows.ltrim from to list.now.items) list.now reply.new change) }
 {
-    let reply = Pieces::of_ok(alloc)?;
+    reply.put_ok()?;
     let before = list.len();
     let (start, stop) = ends(from, to, before);
     let after = stop.saturating_sub(start);
-    Ok(Prepared {
-        reply,
-        change: resized(Edit::Trim(from, to), before, after),
-    })
+    Ok(resized(Edit::Trim(from, to), before, after))
 }

@@ -11,9 +11,8 @@ use Rattle.df_values.specs.declared.value.Value.{Value}
 use Rattle.df_values.specs.declared.value.Value.TheVariants as values
 use Rattle.df_values.specs.declared.change.Change.{Change}
 use Rattle.df_values.specs.declared.change.Change.TheVariants as changes
-use Rattle.df_values.specs.declared.change.Prepared.{Prepared}
 use Rattle.df_values.specs.Seen.{seen}
-use Rattle.df_values.specs.Prepares.{Gives}
+use Rattle.df_values.specs.Prepares.{Makes}
 use Rattle.df_model.specs.declared.command.Family.{Family}
 use Rattle.df_model.specs.declared.command.Family.TheVariants as families
 
@@ -39,13 +38,13 @@ pub record Puts (bytes : Bytes) (change : Change) : Type 0 where
   pub same : text.items ≡ bytes
 
 -- SET where the key holds whatever value
-abbrev pub Sets : Bytes → Guard → Prepared → Type 0
-Sets bytes guard prepared = (value : Value) → Gives (set bytes guard (Some (seen value))) (Some value) prepared
+abbrev pub Sets : Bytes → Guard → Bytes → Change → Type 0
+Sets bytes guard reply change = (value : Value) → Makes (set bytes guard (Some (seen value))) (Some value) reply change
 
 -- the outcome is the same where the key is missing and where it holds a string
-pub record GivesText (outcome : Outcome) (prepared : Prepared) : Type 0 where
-  pub missing : Gives outcome None prepared
-  pub text : (text : Spared ℕ) → Gives outcome (Some (values.Str text)) prepared
+pub record MakesText (outcome : Outcome) (reply : Bytes) (change : Change) : Type 0 where
+  pub missing : Makes outcome None reply change
+  pub text : (text : Spared ℕ) → Makes outcome (Some (values.Str text)) reply change
 
 -- what SETRANGE gives where there are bytes to write, and the string isn't too long then
 abbrev pub written : ℕ → Bytes → Bytes → Outcome

@@ -4,51 +4,63 @@ ghost use Rattle.std.specs.Prelude.{◌≡◌, IfOk, MatchResult};
 ghost use Rattle.std.specs.Fmt.{signed_decimal};
 ghost use Rattle.df_model.specs.Outcomes.{refused};
 ghost use Rattle.df_model.specs.Meaning.Strings as strings;
-ghost use Rattle.df_strings.specs.Strings.{GivesText};
+ghost use Rattle.df_strings.specs.Strings.{MakesText};
 
 use crate::set::put;
 use df_model::{Bin, ErrorText, NoMemory};
 use df_text::push_i64;
-use df_values::{Pieces, Prepared};
+use df_values::{Change, Pieces};
 use std::alloc::Global;
 
 /// The digits of a number of 64 bits, and its sign.
 const DIGITS: usize = 20;
 
 /// INCRBY, on the number that stands there.
-pub fn incrby(alloc: Global, number: Option<i64>, by: i64) -> Result<Prepared, NoMemory>
-    ensures { IfOk result (λ prepared. GivesText (strings.raised by number) prepared) }
+pub fn incrby(
+    alloc: Global,
+    by: i64,
+    number: Option<i64>,
+    reply: &mut Pieces,
+) -> Result<Change, NoMemory>
+    ensures { IfOk result (λ change. MakesText (strings.raised by number) reply.new change) }
 {
     let Some(number) = number else {
-        return Prepared::refuse(alloc, &ErrorText::NotInteger);
+        reply.put_error(&ErrorText::NotInteger)?;
+        return Ok(Change::Keep);
     };
     let Some(sum) = number.checked_add(by) else {
-        return Prepared::refuse(alloc, &ErrorText::Overflow);
+        reply.put_error(&ErrorText::Overflow)?;
+        return Ok(Change::Keep);
     };
-    count(alloc, sum)
+    count(alloc, sum, reply)
 }
 
 /// DECRBY, on the number that stands there. The least number has no opposite, so it can't be taken off.
-pub fn decrby(alloc: Global, number: Option<i64>, by: i64) -> Result<Prepared, NoMemory>
-    ensures { IfOk result (λ prepared. GivesText (strings.lowered by number) prepared) }
+pub fn decrby(
+    alloc: Global,
+    by: i64,
+    number: Option<i64>,
+    reply: &mut Pieces,
+) -> Result<Change, NoMemory>
+    ensures { IfOk result (λ change. MakesText (strings.lowered by number) reply.new change) }
 {
     let Some(number) = number else {
-        return Prepared::refuse(alloc, &ErrorText::NotInteger);
+        reply.put_error(&ErrorText::NotInteger)?;
+        return Ok(Change::Keep);
     };
     let Some(opposite) = by.checked_neg() else {
-        return Prepared::refuse(alloc, &ErrorText::Overflow);
+        reply.put_error(&ErrorText::Overflow)?;
+        return Ok(Change::Keep);
     };
-    incrby(alloc, Some(number), opposite)
+    incrby(alloc, opposite, Some(number), reply)
 }
 
 /// Puts the decimal of a number, and answers the number.
-fn count(alloc: Global, n: i64) -> Result<Prepared, NoMemory>
-    ensures { IfOk result (λ prepared. GivesText (strings.summed n) prepared) }
+fn count(alloc: Global, n: i64, reply: &mut Pieces) -> Result<Change, NoMemory>
+    ensures { IfOk result (λ change. MakesText (strings.summed n) reply.new change) }
 {
     let mut digits = Vec::with_capacity(alloc, DIGITS)?;
     push_i64(&mut digits, n)?;
-    Ok(Prepared {
-        reply: Pieces::of_int(alloc, n)?,
-        change: put(Bin::from_vec(digits)),
-    })
+    reply.put_int(n)?;
+    Ok(put(Bin::from_vec(digits)))
 }

@@ -1,7 +1,7 @@
 //! The commands of one key that are about strings, and TYPE.
 //!
-//! `prepare` asks first what the key holds, and then which command it is: `missing`, `on_text` and `on_other`
-//! have a line for each command. What a command is to answer stands in df_model, specs/Meaning/Strings.
+//! `prepare_into` asks first what the key holds, and then which command it is: `on_missing`, `on_text` and
+//! `on_other` have a line for each command. What a command is to answer stands in df_model, specs/Meaning/Strings.
 #![tactic(auto)]
 
 mod counter;
@@ -9,4 +9,4 @@ mod dispatch;
 mod part;
 mod set;
 
-pub use dispatch::prepare;
+pub use dispatch::prepare_into;

@@ -8,8 +8,8 @@ use Rattle.df_lists.proofs.look.elements.Goals as goal
 pub elements-init : goal.elements-init
 elements-init c =
     let xs = from_end c.args.side c.args.list.now.items in
-    range_starts c.add_array_head.new.self c.args.start c.args.stop xs (omega (arith, length-from_end c.args.side c.args.list.now.items, c.requires))
-    (c.in_ok-add_array_head.ensures ∙ ap (λ pieces. pieces ++ (codes "*" ++ decimal c.saturating_sub.result ++ crlf)) c.new-pieces.ensures ∙ ap (λ n. codes "*" ++ decimal n ++ crlf) c.saturating_sub.ensures)
+    range_starts c.put_array_head.new.self c.args.start c.args.stop xs (omega (arith, length-from_end c.args.side c.args.list.now.items, c.requires))
+    (c.in_ok-put_array_head.ensures ∙ ap (λ n. codes "*" ++ decimal n ++ crlf) c.saturating_sub.ensures)
 
 pub unreachable-requires : goal.unreachable-requires
 unreachable-requires c =
@@ -19,6 +19,6 @@ unreachable-requires c =
 pub elements-preserved : goal.elements-preserved
 elements-preserved c =
     let xs = from_end c.args.side c.args.list.now.items in
-    range_goes c.elements.pieces c.add_bulk.new.self _ c.elements.at c.args.stop xs c.in-Some.element.now c.elements-test.true
+    range_goes c.elements.reply c.add_bulk.new.self _ c.elements.at c.args.stop xs c.in-Some.element.now c.elements-test.true
     (sym c.element_from.ensures ∙ ap option_copied c.in-Some.is)
-    (c.in_ok-add_bulk.ensures ∙ ap (λ bytes. c.elements.pieces ++ bulk_bytes bytes) c.as_slice.ensures) c.elements.invariant
+    (c.in_ok-add_bulk.ensures ∙ ap (λ bytes. c.elements.reply ++ bulk_bytes bytes) c.as_slice.ensures) c.elements.invariant

@@ -9,4 +9,4 @@ use Rattle.df_lists.proofs.look.elements.Given as goal
 abbrev pub invariant-elements : goal.invariant-elements
 invariant-elements l =
     let items = take l.stop (from_end l.side l.list.items) in
-    l.pieces ++ flat_map bulk_bytes (drop l.at items) ≡ encoding_of (bulks (drop l.start items))
+    l.reply ++ flat_map bulk_bytes (drop l.at items) ≡ encoding_of (bulks (drop l.start items))

@@ -10,13 +10,13 @@ returns-in_default-clause-ok c =
     let xs = c.args.list.now.items in
     let some : xs ≡ [] → ⊥ = search rules in
     let none : place_of c.args.pivot.now xs ≡ None = sym c.position.ensures.place ∙ c.in_default.is in
-    keeps _ _ _ c.keep-in_default.result (insert_no_row c.args.beside c.args.pivot.now c.args.element xs (some_long xs some) none)
-    (ap (λ p. p.reply) c.keep-in_default.ensures ∙ c.in_ok-of_int.ensures) (ap (λ p. p.change) c.keep-in_default.ensures)
+    keeps _ _ _ c.put_int.new.self _ (insert_no_row c.args.beside c.args.pivot.now c.args.element xs (some_long xs some) none)
+    c.in_ok-put_int.ensures refl
 
 pub returns-clause-ok : goal.returns-clause-ok
 returns-clause-ok c =
     let xs = c.args.list.now.items in
     let found : place_of c.args.pivot.now xs ≡ Some c.in-Some.at = sym c.position.ensures.place ∙ c.in-Some.is in
-    insert_gives c.args.beside c.args.pivot.now c.args.element xs c.reserve.new.self c.in-Some.at c.place_beside.result c.in_ok-after.after _
+    insert_gives c.args.beside c.args.pivot.now c.args.element xs c.reserve.new.self c.in-Some.at c.place_beside.result c.in_ok-after.after c.put_count-2.new.self _
     c.reserve.ensures.items found (search rules) (omega (arith, c.in_ok-reserve.ensures.ok)) (c.in_ok-after.ensures ∙ ap (λ n. n + 1) c.len.ensures)
-    c.place_beside.ensures c.in_ok-reply.ensures refl
+    c.place_beside.ensures c.in_ok-put_count-2.ensures refl

@@ -10,7 +10,7 @@ use Rattle.df_lists.proofs.push.push_to_nothing.Goals as goal
 
 pub returns : goal.returns
 returns c =
-    push_puts c.args.side c.args.words (values.List c.reserve.new.self) c.apply.new.value _ (omega (arith, c.len-2.ensures, c.if-len-eq0.false))
+    push_puts c.args.side c.args.words (values.List c.reserve.new.self) c.apply.new.value _ _ (omega (arith, c.len-2.ensures, c.if-len-eq0.false))
     (ap plain.Value.Elements (c.reserve.ensures.items ∙ c.new-list.ensures))
     (c.apply.ensures ∙ ap (λ edit. edited edit (seen (values.List c.reserve.new.self))) c.edit_of.ensures)
-    (c.in_ok-reply.ensures ∙ ap (λ n. encoding_of (count n)) c.len.ensures) refl
+    (c.in_ok-put_count.ensures ∙ ap (λ n. encoding_of (count n)) c.len.ensures) refl

@@ -1,5 +1,5 @@
 use Rattle.std.proofs.Common.{rules}
-use Rattle.df_lists.proofs.dispatch.prepare.Goals as goal
+use Rattle.df_strings.proofs.dispatch.prepare_into.Goals as goal
 
 pub returns-in-Some-clause-ok : goal.returns-in-Some-clause-ok
 returns-in-Some-clause-ok c = rw c.in-Some.is (search rules)
