@@ -15,4 +15,4 @@ mod remove;
 pub use combination::Combine;
 pub use dispatch::prepare_into;
 pub use fold::{combine, first, next};
-pub use look::members;
+pub use look::put_members;

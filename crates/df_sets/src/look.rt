@@ -1,6 +1,6 @@
 //! Commands that only look at the members.
 
-ghost use Rattle.std.specs.Prelude.{◌≡◌, ◌++◌, Some, IfOk, OnOk};
+ghost use Rattle.std.specs.Prelude.{◌≡◌, ◌++◌, Some, OnOk};
 ghost use Rattle.std.specs.List.{flat_map};
 ghost use Rattle.df_model.specs.Meaning.{one};
 ghost use Rattle.df_model.specs.Meaning.Sets as sets;
@@ -13,7 +13,6 @@ ghost use Rattle.df_sets.specs.Looks.{IsLook};
 use df_colls::SetVal;
 use df_model::{Bin, NoMemory, OneOp};
 use df_values::Pieces;
-use std::alloc::Global;
 
 /// Writes what a command is to answer that only looks.
 pub(crate) fn look(op: &OneOp, set: &SetVal, reply: &mut Pieces) -> Result<(), NoMemory>
@@ -53,15 +52,7 @@ fn has_each(words: &[Bin], set: &SetVal, reply: &mut Pieces) -> Result<(), NoMem
 }
 
 /// The reply that lists the members, in byte order.
-pub fn members(alloc: Global, set: &SetVal) -> Result<Pieces, NoMemory>
-    ensures { IfOk result (λ pieces. pieces ≡ encoding_of (sets.smembers set.now.members)) }
-{
-    let mut pieces = Pieces::new(alloc);
-    put_members(set, &mut pieces)?;
-    Ok(pieces)
-}
-
-fn put_members(set: &SetVal, reply: &mut Pieces) -> Result<(), NoMemory>
+pub fn put_members(set: &SetVal, reply: &mut Pieces) -> Result<(), NoMemory>
     ensures { OnOk result (reply.new ≡ encoding_of (sets.smembers set.now.members)) }
 {
     reply.put_array_head(set.len())?;

@@ -154,25 +154,25 @@ lmove_refused s d from to K filled apart other =
     ∙ ap (leaves s d from to K) some.2
     ∙ ap (received d to some.0 K (with_held K s v)) (ap elements (held_other K s d v apart) ∙ other)
 
-pub passed : (s d : Bytes) (from to : Side) (K after : Keyspace) (there : Bool) (xs left ys now : List Bytes) (old new : Bytes) → same s d ≡ false → IsFilled (held K s) → elements (held K s) ≡ Some xs → elements (held K d) ≡ Some ys
-    → after ≡ with_held (with_held K s (put_as false left)) d (put_as there now) → Passes from to xs left ys now old new → Gives (lmove s d from to K) after old new
-passed s d from to K after there xs left ys now old new apart filled at_s at_d put p =
+pub passed : (s d : Bytes) (from to : Side) (K after : Keyspace) (there : Bool) (xs left ys now : List Bytes) (bytes : Bytes) → same s d ≡ false → IsFilled (held K s) → elements (held K s) ≡ Some xs → elements (held K d) ≡ Some ys
+    → after ≡ with_held (with_held K s (put_as false left)) d (put_as there now) → Passes from to xs left ys now bytes → Gives (lmove s d from to K) after bytes
+passed s d from to K after there xs left ys now bytes apart filled at_s at_d put p =
     let is : lmove s d from to K ≡ (Bulk p.element, with_held (with_held K s (put_as false left)) d (Some (Value.Elements (given to p.element ys)))) =
     lmove_is s d from to K xs left ys p.element (filled_list (held K s) xs filled at_s) p.takes (ap elements (held_other K s d (put_as false left) apart) ∙ at_d) in
-    subst (λ m. Gives m after old new) (sym is)
+    subst (λ m. Gives m after bytes) (sym is)
     (record {
       leaves = put ∙ ap (with_held (with_held K s (put_as false left)) d) (ap (put_as there) p.gives ∙ put_given there to p.element ys);
-      adds = p.adds;
+      says = p.says;
     })
 
-pub turned : (s : Bytes) (from to : Side) (K after : Keyspace) (xs now : List Bytes) (old new : Bytes) → IsFilled (held K s) → elements (held K s) ≡ Some xs
-    → after ≡ with_held K s (Some (Value.Elements now)) → Turns from to xs now old new → Gives (lmove s s from to K) after old new
-turned s from to K after xs now old new filled at_s put t =
-    let p : Passes from to xs t.left t.left now old new = t.passes in
+pub turned : (s : Bytes) (from to : Side) (K after : Keyspace) (xs now : List Bytes) (bytes : Bytes) → IsFilled (held K s) → elements (held K s) ≡ Some xs
+    → after ≡ with_held K s (Some (Value.Elements now)) → Turns from to xs now bytes → Gives (lmove s s from to K) after bytes
+turned s from to K after xs now bytes filled at_s put t =
+    let p : Passes from to xs t.left t.left now bytes = t.passes in
     let is : lmove s s from to K ≡ (Bulk p.element, with_held (with_held K s (put_as false t.left)) s (Some (Value.Elements (given to p.element t.left)))) =
     lmove_is s s from to K xs t.left t.left p.element (filled_list (held K s) xs filled at_s) p.takes (ap elements (held_same K s (put_as false t.left)) ∙ elements_stored t.left) in
-    subst (λ m. Gives m after old new) (sym is)
+    subst (λ m. Gives m after bytes) (sym is)
     (record {
       leaves = put ∙ ap (λ l. with_held K s (Some (Value.Elements l))) p.gives ∙ sym (over K s (put_as false t.left) (Some (Value.Elements (given to p.element t.left))));
-      adds = p.adds;
+      says = p.says;
     })

@@ -1,5 +1,5 @@
 -- A command of one key, from its row to the keyspace.
-use Rattle.std.proofs.Common.{◌≡◌, Bool, true, false, cond, ◌++◌, refl, sym, ap, subst, ◌∙◌}
+use Rattle.std.proofs.Common.{◌≡◌, Bool, true, false, cond, refl, sym, ap, subst, ◌∙◌}
 use Rattle.std.specs.Prelude.{Option, Some, None}
 use Rattle.df_model.specs.Values.{Bytes}
 use Rattle.df_model.specs.Values as plain
@@ -12,15 +12,14 @@ use Rattle.df_model.proofs.LocalityLaws.{tied, held_with, reads_one, writes_one}
 use Rattle.df_model.proofs.WholeLaws.{same_map_by, tied_bytes}
 use Rattle.df_values.specs.Seen.{seen}
 use Rattle.df_values.specs.Edits.{applied, Fits}
-use Rattle.df_values.specs.Prepares.{Gives as Prepares}
+use Rattle.df_values.specs.Prepares.{Makes}
 use Rattle.df_values.specs.declared.value.Value.{Value}
 use Rattle.df_values.specs.declared.change.Change.{Change}
 use Rattle.df_values.specs.declared.change.Change.TheVariants as changes
-use Rattle.df_values.specs.declared.change.Prepared.{Prepared}
-use Rattle.df_table.specs.Fates.{Ran, RanAt}
+use Rattle.df_table.specs.Fates.{Ran, RanAt, RanWhere}
 use Rattle.df_table.specs.Responses.{Gives}
 use Rattle.df_table.specs.declared.one.Fate.{Fate}
-use Rattle.df_table.specs.declared.one.Fate.TheVariants.{Stays, Goes}
+use Rattle.df_table.specs.declared.one.Fate.TheVariants.{Missing, Stays, Goes}
 
 -- ---- the row of a command on the keyspace
 
@@ -37,44 +36,51 @@ pub one_means : (key : Bytes) (row : KeyRow) (K : Keyspace) → does (on_key key
 one_means key (KeyRow.Looks row) K = reads_one key row K ∙ ap (λ k. (row (held K key), k)) (sym (put_back K key (held K key) refl))
 one_means key (KeyRow.Changes row) K = writes_one key row K
 
-pub one_gives : (key : Bytes) (row : KeyRow) (K after : Keyspace) (old new : Bytes) → after ≡ with_held K key (settled (outcome row (held K key)).1 (held K key)) → new ≡ old ++ encoding_of (outcome row (held K key)).0
-    → Gives (does (on_key key row) K) after old new
-one_gives key row K after old new left added = subst (λ m. Gives m after old new) (sym (one_means key row K)) (record { leaves = left; adds = added })
+pub one_gives : (key : Bytes) (row : KeyRow) (K after : Keyspace) (bytes : Bytes) → after ≡ with_held K key (settled (outcome row (held K key)).1 (held K key)) → bytes ≡ encoding_of (outcome row (held K key)).0
+    → Gives (does (on_key key row) K) after bytes
+one_gives key row K after bytes left added = subst (λ m. Gives m after bytes) (sym (one_means key row K)) (record { leaves = left; says = added })
 
 -- ---- where the key holds something
 
-pub ran_at : (fate : Fate) (row : KeyRow) (key : Bytes) (K after : Keyspace) (before now : plain.Value) (old new : Bytes) → held K key ≡ Some before → after ≡ with_held K key (Some now)
-    → Ran fate (outcome row (Some before)) before now old new → RanAt fate row key K after old new
-ran_at Stays row key K after before now old new h left ran = record {
+ran_at : (fate : Fate) (row : KeyRow) (key : Bytes) (K after : Keyspace) (before now : plain.Value) (bytes : Bytes) → held K key ≡ Some before → after ≡ with_held K key (Some now)
+    → Ran fate (outcome row (Some before)) before now bytes → RanAt fate row key K after bytes
+ran_at Missing row key K after before now bytes h left ran = absurd ran.left
+ran_at Stays row key K after before now bytes h left ran = record {
   left = left ∙ ap (with_held K key) (sym ran.left) ∙ ap (λ v. with_held K key (settled (outcome row v).1 v)) (sym h);
-  adds = ran.adds ∙ ap (λ v. old ++ encoding_of (outcome row v).0) (sym h);
+  says = ran.says ∙ ap (λ v. encoding_of (outcome row v).0) (sym h);
 }
-ran_at Goes row key K after before now old new h left ran = record {
+ran_at Goes row key K after before now bytes h left ran = record {
   left = (
     ap (λ v. settled (outcome row v).1 v) h ∙ ran.left.0,
     left ∙ ap (λ v. with_held K key (Some v)) ran.left.1 ∙ put_back K key (Some before) h,
   );
-  adds = ran.adds ∙ ap (λ v. old ++ encoding_of (outcome row v).0) (sym h);
+  says = ran.says ∙ ap (λ v. encoding_of (outcome row v).0) (sym h);
 }
 
-pub stayed : (row : KeyRow) (key : Bytes) (K after : Keyspace) (old new : Bytes) → RanAt Stays row key K after old new → Gives (does (on_key key row) K) after old new
-stayed row key K after old new ran = one_gives key row K after old new ran.left ran.adds
+pub ran_where : (fate : Fate) (row left : KeyRow) (key : Bytes) (K after : Keyspace) (before now : plain.Value) (bytes : Bytes) → held K key ≡ Some before → after ≡ with_held K key (Some now)
+    → Ran fate (outcome row (Some before)) before now bytes → RanWhere fate row left key K after bytes
+ran_where Missing row left key K after before now bytes h put ran = absurd ran.left
+ran_where Stays row left key K after before now bytes h put ran = ran_at Stays row key K after before now bytes h put ran
+ran_where Goes row left key K after before now bytes h put ran = ran_at Goes row key K after before now bytes h put ran
 
-pub went : (row : KeyRow) (key : Bytes) (K middle after : Keyspace) (old new : Bytes) → RanAt Goes row key K middle old new → after ≡ with_held middle key None → Gives (does (on_key key row) K) after old new
-went row key K middle after old new ran gone =
-    one_gives key row K after old new
-    (gone ∙ ap (λ k. with_held k key None) ran.left.1 ∙ ap (with_held K key) (sym ran.left.0)) ran.adds
+pub stayed : (row : KeyRow) (key : Bytes) (K after : Keyspace) (bytes : Bytes) → RanAt Stays row key K after bytes → Gives (does (on_key key row) K) after bytes
+stayed row key K after bytes ran = one_gives key row K after bytes ran.left ran.says
+
+pub went : (row : KeyRow) (key : Bytes) (K middle after : Keyspace) (bytes : Bytes) → RanAt Goes row key K middle bytes → after ≡ with_held middle key None → Gives (does (on_key key row) K) after bytes
+went row key K middle after bytes ran gone =
+    one_gives key row K after bytes
+    (gone ∙ ap (λ k. with_held k key None) ran.left.1 ∙ ap (with_held K key) (sym ran.left.0)) ran.says
 
 -- ---- where it holds nothing
 
-pub put_new : (row : KeyRow) (key : Bytes) (K middle after : Keyspace) (prepared : Prepared) (value : Value) (old new : Bytes) → held K key ≡ None → middle ≡ K
-    → Prepares (outcome row None) None prepared → prepared.change ≡ changes.Put value → after ≡ with_held middle key (Some (seen value)) → new ≡ old ++ prepared.reply → Gives (does (on_key key row) K) after old new
-put_new row key K middle after prepared value old new none same prepares puts left added =
+pub put_new : (row : KeyRow) (key : Bytes) (K middle after : Keyspace) (change : Change) (value : Value) (bytes : Bytes) → held K key ≡ None → middle ≡ K
+    → Makes (outcome row None) None bytes change → change ≡ changes.Put value → after ≡ with_held middle key (Some (seen value)) → Gives (does (on_key key row) K) after bytes
+put_new row key K middle after change value bytes none same prepares puts left =
     let puts_it : Some (seen value) ≡ settled (outcome row None).1 None =
     ap (λ c. applied c None) (sym puts) ∙ prepares.change in
-    one_gives key row K after old new
+    one_gives key row K after bytes
     (left ∙ ap (λ k. with_held k key (Some (seen value))) same ∙ ap (with_held K key) puts_it ∙ ap (λ v. with_held K key (settled (outcome row v).1 v)) (sym none))
-    (added ∙ ap (λ r. old ++ r) (prepares.reply ∙ ap (λ v. encoding_of (outcome row v).0) (sym none)))
+    (prepares.reply ∙ ap (λ v. encoding_of (outcome row v).0) (sym none))
 
 keeps_nothing : (change : Change) → ((v : Value) → change ≡ changes.Put v → ⊥) → Fits change None → applied change None ≡ None
 keeps_nothing changes.Keep not fits = refl
@@ -83,11 +89,11 @@ keeps_nothing changes.Delete not fits = refl
 keeps_nothing (changes.Edit edit) not fits = absurd fits
 
 -- nothing is put, so the key still holds nothing
-pub kept_nothing : (row : KeyRow) (key : Bytes) (K : Keyspace) (prepared : Prepared) (old new : Bytes) → held K key ≡ None
-    → Prepares (outcome row None) None prepared → ((v : Value) → prepared.change ≡ changes.Put v → ⊥) → new ≡ old ++ prepared.reply → Gives (does (on_key key row) K) K old new
-kept_nothing row key K prepared old new none prepares not added =
+pub kept_nothing : (row : KeyRow) (key : Bytes) (K : Keyspace) (change : Change) (bytes : Bytes) → held K key ≡ None
+    → Makes (outcome row None) None bytes change → ((v : Value) → change ≡ changes.Put v → ⊥) → Gives (does (on_key key row) K) K bytes
+kept_nothing row key K change bytes none prepares not =
     let nothing : settled (outcome row None).1 None ≡ None =
-    sym prepares.change ∙ keeps_nothing prepared.change not prepares.fits in
-    one_gives key row K K old new
+    sym prepares.change ∙ keeps_nothing change not prepares.fits in
+    one_gives key row K K bytes
     (sym (ap (λ v. with_held K key (settled (outcome row v).1 v)) none ∙ put_back K key (settled (outcome row None).1 None) (none ∙ sym nothing)))
-    (added ∙ ap (λ r. old ++ r) (prepares.reply ∙ ap (λ v. encoding_of (outcome row v).0) (sym none)))
+    (prepares.reply ∙ ap (λ v. encoding_of (outcome row v).0) (sym none))

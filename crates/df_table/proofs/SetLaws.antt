@@ -88,17 +88,17 @@ smove_is s d m K from to at_s has at_d apart =
 inserted : (s : Members) (m : Bytes) → members.contains (members.insert s m) m ≡ true
 inserted s m = ap is_some (fin.get-insert nat_list_cmp_total s m tt m ∙ ap (λ b. cond b (Some tt) (fin.get s m)) (ap is_eq (tied_itself nat_list_cmp_total m)))
 
-pub joins : (s d m : Bytes) (K after : Keyspace) (there : Bool) (from less to more : Members) (old new : Bytes) → same s d ≡ false → Has true m (held K s) → members_of (held K s) ≡ Some from → members_of (held K d) ≡ Some to
-    → after ≡ with_held (with_held K s (put_as false less)) d (put_as there more) → Joins m from less to more old new → Gives (smove s d m K) after old new
-joins s d m K after there from less to more old new apart has at_s at_d put j =
+pub joins : (s d m : Bytes) (K after : Keyspace) (there : Bool) (from less to more : Members) (bytes : Bytes) → same s d ≡ false → Has true m (held K s) → members_of (held K s) ≡ Some from → members_of (held K d) ≡ Some to
+    → after ≡ with_held (with_held K s (put_as false less)) d (put_as there more) → Joins m from less to more bytes → Gives (smove s d m K) after bytes
+joins s d m K after there from less to more bytes apart has at_s at_d put j =
     let same_set : has.0 ≡ from = same_members (held K s) from has.0 has.1 at_s in
     let is : smove s d m K ≡ (count 1, with_held (with_held K s (put_as false (members.remove from m))) d (put_as false (members.insert to m))) =
     smove_is s d m K from to (has.1 ∙ ap (λ t. Some (Value.Set t)) same_set) (ap (λ t. members.contains t m) (sym same_set) ∙ has.2) at_d apart in
     let full : (members.len (members.insert to m) == 0) ≡ false = some_member (members.insert to m) m (inserted to m) in
-    subst (λ x. Gives x after old new) (sym is)
+    subst (λ x. Gives x after bytes) (sym is)
     (record {
       leaves = put
           ∙ ap (λ t. with_held (with_held K s (put_as false t)) d (put_as there more)) j.takes
           ∙ ap (with_held (with_held K s (put_as false (members.remove from m))) d) (ap (put_as there) j.gives ∙ put_some there (members.insert to m) full ∙ sym (put_some false (members.insert to m) full));
-      adds = j.adds;
+      says = j.says;
     })

@@ -1,5 +1,5 @@
 -- A member that goes from a set to a set.
-use Rattle.std.specs.Prelude.{◌≡◌, ◌++◌, Bool, true, false, Option, Some, None}
+use Rattle.std.specs.Prelude.{◌≡◌, Bool, true, false, Option, Some, None}
 use Rattle.df_model.specs.Values.{Bytes, Value, Members}
 use Rattle.df_model.specs.Members as members
 use Rattle.df_model.specs.Outcomes.{count, settled}
@@ -25,7 +25,7 @@ put_as true set = Some (Value.Set set)
 put_as false set = settled (stored set) None
 
 -- the member went from the source to the destination
-pub record Joins (member : Bytes) (source left destination received : Members) (out_old out_new : Bytes) : Type 0 where
+pub record Joins (member : Bytes) (source left destination received : Members) (bytes : Bytes) : Type 0 where
   pub takes : left ≡ members.remove source member
   pub gives : received ≡ members.insert destination member
-  pub adds : out_new ≡ out_old ++ encoding_of (count 1)
+  pub says : bytes ≡ encoding_of (count 1)

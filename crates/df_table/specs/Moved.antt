@@ -1,5 +1,5 @@
 -- An element that goes from a list to a list.
-use Rattle.std.specs.Prelude.{◌≡◌, ◌++◌, Bool, true, false, Option, Some, None, List, [], ◌∷◌}
+use Rattle.std.specs.Prelude.{◌≡◌, Bool, true, false, Option, Some, None, List, [], ◌∷◌}
 use Rattle.df_model.specs.Values.{Bytes, Value}
 use Rattle.df_model.specs.Outcomes.{settled}
 use Rattle.df_model.specs.Meaning.Lists.{elements, stored, taken, given}
@@ -24,14 +24,14 @@ abbrev pub put_as : Bool → List Bytes → Option Value
 put_as true xs = Some (Value.Elements xs)
 put_as false xs = settled (stored xs) None
 
--- an element of the source went to the destination, and its bytes to the output
-pub record Passes (from to : Side) (source left destination received : List Bytes) (out_old out_new : Bytes) : Type 0 where
+-- an element of the source went to the destination, and its bytes are the reply
+pub record Passes (from to : Side) (source left destination received : List Bytes) (bytes : Bytes) : Type 0 where
   pub element : Bytes
   pub takes : taken from source ≡ element ∷ taken from left
   pub gives : received ≡ given to element destination
-  pub adds : out_new ≡ out_old ++ encoding_of (Bulk element)
+  pub says : bytes ≡ encoding_of (Bulk element)
 
 -- an element went from one end of a list to an end of it
-pub record Turns (from to : Side) (before after : List Bytes) (out_old out_new : Bytes) : Type 0 where
+pub record Turns (from to : Side) (before after : List Bytes) (bytes : Bytes) : Type 0 where
   pub left : List Bytes
-  pub passes : Passes from to before left left after out_old out_new
+  pub passes : Passes from to before left left after bytes

@@ -4,7 +4,7 @@
 //! runs out? The combination stands in memory of its own, and room for its key and for the reply is taken before
 //! the key changes.
 
-ghost use Rattle.std.specs.Prelude.{◌≡◌, ◌++◌, Some, is_some, map, OnOk, OnErr, IfOk};
+ghost use Rattle.std.specs.Prelude.{◌≡◌, Some, is_some, map, OnOk, OnErr, IfOk};
 ghost use Rattle.std.specs.Option.{option_copied, option_map};
 ghost use Rattle.df_model.specs.Members as members;
 ghost use Rattle.df_model.specs.Meaning.Sets as sets;
@@ -17,9 +17,8 @@ ghost use Rattle.df_table.specs.Responses.{Gives};
 use crate::table::Table;
 use df_colls::SetVal;
 use df_model::{Bin, ErrorText, NoMemory};
-use df_resp::{encode_count, encode_error};
-use df_sets::{Combine, first, next};
-use df_values::Value;
+use df_sets::{Combine, first, next, put_members};
+use df_values::{Pieces, Value};
 use std::alloc::Global;
 
 /// SINTER, SUNION and SDIFF.
@@ -28,14 +27,13 @@ pub fn combine_keys(
     table: &Table,
     op: Combine,
     keys: &[Bin],
-    out: &mut Vec<u8>,
+    reply: &mut Pieces,
 ) -> Result<(), NoMemory>
-    ensures ok { OnOk result (out.new.items ≡ out.old.items ++ encoding_of (sets.combined (combined op) keys.now table.now.keys)) }
-    ensures err { OnErr result (out.new.items ≡ out.old.items) }
+    ensures { OnOk result (reply.new ≡ encoding_of (sets.combined (combined op) keys.now table.now.keys)) }
 {
     match combined_of(alloc, table, op, keys)? {
-        Some(set) => df_sets::members(alloc, &set)?.append_to(out),
-        None => encode_error(&ErrorText::WrongKind, out),
+        Some(set) => put_members(&set, reply),
+        None => reply.put_error(&ErrorText::WrongKind),
     }
 }
 
@@ -47,32 +45,35 @@ pub fn store_combined(
     op: Combine,
     destination: Bin,
     keys: &[Bin],
-    out: &mut Vec<u8>,
+    reply: &mut Pieces,
 ) -> Result<(), NoMemory>
-    ensures ok { OnOk result (Gives (sets.store (combined op) destination keys.now table.old.keys) table.new.keys out.old.items out.new.items) }
+    ensures ok { OnOk result (Gives (sets.store (combined op) destination keys.now table.old.keys) table.new.keys reply.new) }
     ensures keys { OnErr result (table.new.keys ≡ table.old.keys) }
-    ensures out { OnErr result (out.new.items ≡ out.old.items) }
 {
     let made = combined_of(alloc, table, op, keys)?;
     match made {
-        Some(set) => keep(table, destination, set, out),
-        None => encode_error(&ErrorText::WrongKind, out),
+        Some(set) => keep(table, destination, set, reply),
+        None => reply.put_error(&ErrorText::WrongKind),
     }
 }
 
 /// Puts the set in place of what the key held, and replies how many members it has.
-fn keep(table: &mut Table, destination: Bin, set: SetVal, out: &mut Vec<u8>) -> Result<(), NoMemory>
-    ensures ok { OnOk result (Gives (sets.kept destination table.old.keys (Some set.members)) table.new.keys out.old.items out.new.items) }
+fn keep(
+    table: &mut Table,
+    destination: Bin,
+    set: SetVal,
+    reply: &mut Pieces,
+) -> Result<(), NoMemory>
+    ensures ok { OnOk result (Gives (sets.kept destination table.old.keys (Some set.members)) table.new.keys reply.new) }
     ensures keys { OnErr result (table.new.keys ≡ table.old.keys) }
-    ensures out { OnErr result (out.new.items ≡ out.old.items) }
 {
     if set.is_empty() {
-        encode_count(0, out)?;
+        reply.put_count(0)?;
         table.forget(&destination);
         return Ok(());
     }
     table.reserve(1)?;
-    encode_count(set.len(), out)?;
+    reply.put_count(set.len())?;
     table.put(destination, Value::Set(set));
     Ok(())
 }

@@ -1,11 +1,10 @@
 //! Keys with their values, and every command run on them.
 //!
-//! A command goes in three steps: its reply is prepared and all memory of its change is taken; the reply's bytes go
-//! to the output; the change is made, which takes none. So want of memory at any of them leaves the keys as they were.
+//! A command goes in two steps: its reply is written and all memory of its change is taken; the change is made, which
+//! takes none. So want of memory leaves the keys as they were.
 #![tactic(auto)]
 
 mod combos;
-mod lines;
 mod many;
 mod moves;
 mod one;

@@ -12,6 +12,7 @@ use crate::smove::smove;
 use crate::table::Table;
 use df_model::{ManyOp, NoMemory};
 use df_sets::Combine;
+use df_values::Pieces;
 use std::alloc::Global;
 
 /// Runs a command of several keys.
@@ -19,21 +20,26 @@ pub fn run_many(
     alloc: Global,
     table: &mut Table,
     op: ManyOp,
-    out: &mut Vec<u8>,
+    reply: &mut Pieces,
 ) -> Result<(), NoMemory>
-    ensures ok { OnOk result (Gives (does (many op) table.old.keys) table.new.keys out.old.items out.new.items) }
+    ensures ok { OnOk result (Gives (does (many op) table.old.keys) table.new.keys reply.new) }
     ensures keys { OnErr result (table.new.keys ≡ table.old.keys) }
-    ensures out { OnErr result (out.new.items ≡ out.old.items) }
 {
     match op {
-        ManyOp::Del(words) => del(table, words.as_slice(), out),
-        ManyOp::Unlink(words) => del(table, words.as_slice(), out),
-        ManyOp::Exists(words) => exists(table, words.as_slice(), out),
-        ManyOp::Mget(words) => mget(table, words.as_slice(), out),
-        ManyOp::Mset(pairs) => mset(table, pairs, out),
-        ManyOp::Msetnx(pairs) => msetnx(table, pairs, out),
-        ManyOp::Rename(source, destination) => rename(table, source, destination, out),
-        ManyOp::Renamenx(source, destination) => renamenx(table, source, destination, out),
+        ManyOp::Del(words) => {
+            del(table, words.as_slice(), reply);
+            Ok(())
+        }
+        ManyOp::Unlink(words) => {
+            del(table, words.as_slice(), reply);
+            Ok(())
+        }
+        ManyOp::Exists(words) => exists(table, words.as_slice(), reply),
+        ManyOp::Mget(words) => mget(table, words.as_slice(), reply),
+        ManyOp::Mset(pairs) => mset(table, pairs, reply),
+        ManyOp::Msetnx(pairs) => msetnx(table, pairs, reply),
+        ManyOp::Rename(source, destination) => rename(table, source, destination, reply),
+        ManyOp::Renamenx(source, destination) => renamenx(table, source, destination, reply),
         ManyOp::Lmove(source, destination, from, to) => lmove(
             alloc,
             table,
@@ -41,20 +47,26 @@ pub fn run_many(
             destination,
             from,
             to,
-            out,
+            reply,
         ),
-        ManyOp::Rpoplpush(source, destination) => rpoplpush(alloc, table, source, destination, out),
+        ManyOp::Rpoplpush(source, destination) => rpoplpush(
+            alloc,
+            table,
+            source,
+            destination,
+            reply,
+        ),
         ManyOp::Smove(source, destination, member) => smove(
             alloc,
             table,
             source,
             destination,
             member,
-            out,
+            reply,
         ),
-        ManyOp::Sinter(keys) => combine_keys(alloc, table, Combine::Inter, keys.as_slice(), out),
-        ManyOp::Sunion(keys) => combine_keys(alloc, table, Combine::Union, keys.as_slice(), out),
-        ManyOp::Sdiff(keys) => combine_keys(alloc, table, Combine::Diff, keys.as_slice(), out),
+        ManyOp::Sinter(keys) => combine_keys(alloc, table, Combine::Inter, keys.as_slice(), reply),
+        ManyOp::Sunion(keys) => combine_keys(alloc, table, Combine::Union, keys.as_slice(), reply),
+        ManyOp::Sdiff(keys) => combine_keys(alloc, table, Combine::Diff, keys.as_slice(), reply),
         ManyOp::Sinterstore(destination, keys) => {
             store_combined(
                 alloc,
@@ -62,7 +74,7 @@ pub fn run_many(
                 Combine::Inter,
                 destination,
                 keys.as_slice(),
-                out,
+                reply,
             )
         }
         ManyOp::Sunionstore(destination, keys) => {
@@ -72,7 +84,7 @@ pub fn run_many(
                 Combine::Union,
                 destination,
                 keys.as_slice(),
-                out,
+                reply,
             )
         }
         ManyOp::Sdiffstore(destination, keys) => {
@@ -82,7 +94,7 @@ pub fn run_many(
                 Combine::Diff,
                 destination,
                 keys.as_slice(),
-                out,
+                reply,
             )
         }
     }

@@ -17,8 +17,7 @@ ghost use Rattle.df_table.specs.Responses.{Gives};
 use crate::table::Table;
 use df_list::ListVal;
 use df_model::{Bin, ErrorText, NoMemory, Side};
-use df_resp::{encode_bulk, encode_error, encode_null};
-use df_values::Value;
+use df_values::{Pieces, Value};
 use std::alloc::Global;
 
 /// What a command on lists finds at a key.
@@ -39,16 +38,15 @@ pub fn lmove(
     destination: Bin,
     from: Side,
     to: Side,
-    out: &mut Vec<u8>,
+    reply: &mut Pieces,
 ) -> Result<(), NoMemory>
-    ensures ok { OnOk result (Gives (lists.lmove source destination from to table.old.keys) table.new.keys out.old.items out.new.items) }
+    ensures ok { OnOk result (Gives (lists.lmove source destination from to table.old.keys) table.new.keys reply.new) }
     ensures keys { OnErr result (table.new.keys ≡ table.old.keys) }
-    ensures out { OnErr result (out.new.items ≡ out.old.items) }
 {
     match look(table.get(&source)) {
-        ListHere::Empty => encode_null(out),
-        ListHere::Other => encode_error(&ErrorText::WrongKind, out),
-        ListHere::Filled => move_from(alloc, table, source, destination, from, to, out),
+        ListHere::Empty => reply.put_null(),
+        ListHere::Other => reply.put_error(&ErrorText::WrongKind),
+        ListHere::Filled => move_from(alloc, table, source, destination, from, to, reply),
     }
 }
 
@@ -58,11 +56,10 @@ pub fn rpoplpush(
     table: &mut Table,
     source: Bin,
     destination: Bin,
-    out: &mut Vec<u8>,
+    reply: &mut Pieces,
 ) -> Result<(), NoMemory>
-    ensures ok { OnOk result (Gives (lists.rpoplpush source destination table.old.keys) table.new.keys out.old.items out.new.items) }
+    ensures ok { OnOk result (Gives (lists.rpoplpush source destination table.old.keys) table.new.keys reply.new) }
     ensures keys { OnErr result (table.new.keys ≡ table.old.keys) }
-    ensures out { OnErr result (out.new.items ≡ out.old.items) }
 {
     lmove(
         alloc,
@@ -71,7 +68,7 @@ pub fn rpoplpush(
         destination,
         Side::Right,
         Side::Left,
-        out,
+        reply,
     )
 }
 
@@ -99,19 +96,18 @@ fn move_from(
     destination: Bin,
     from: Side,
     to: Side,
-    out: &mut Vec<u8>,
+    reply: &mut Pieces,
 ) -> Result<(), NoMemory>
     requires { IsFilled (held table.old.keys source) }
-    ensures ok { OnOk result (Gives (lists.lmove source destination from to table.old.keys) table.new.keys out.old.items out.new.items) }
+    ensures ok { OnOk result (Gives (lists.lmove source destination from to table.old.keys) table.new.keys reply.new) }
     ensures keys { OnErr result (table.new.keys ≡ table.old.keys) }
-    ensures out { OnErr result (out.new.items ≡ out.old.items) }
 {
     if source == destination {
-        return turn_at(alloc, table, source, from, to, out);
+        return turn_at(alloc, table, source, from, to, reply);
     }
     match look(table.get(&destination)) {
-        ListHere::Other => encode_error(&ErrorText::WrongKind, out),
-        _ => send(alloc, table, source, destination, from, to, out),
+        ListHere::Other => reply.put_error(&ErrorText::WrongKind),
+        _ => send(alloc, table, source, destination, from, to, reply),
     }
 }
 
@@ -122,16 +118,15 @@ fn turn_at(
     key: Bin,
     from: Side,
     to: Side,
-    out: &mut Vec<u8>,
+    reply: &mut Pieces,
 ) -> Result<(), NoMemory>
     requires { IsFilled (held table.old.keys key) }
-    ensures ok { OnOk result (Gives (lists.lmove key key from to table.old.keys) table.new.keys out.old.items out.new.items) }
+    ensures ok { OnOk result (Gives (lists.lmove key key from to table.old.keys) table.new.keys reply.new) }
     ensures keys { OnErr result (table.new.keys ≡ table.old.keys) }
-    ensures out { OnErr result (out.new.items ≡ out.old.items) }
 {
     table.reserve(1)?;
     let mut list = take_list(alloc, table, &key);
-    let result = turn(&mut list, from, to, out);
+    let result = turn(&mut list, from, to, reply);
     put_list(table, key, list, true);
     result
 }
@@ -144,20 +139,19 @@ fn send(
     destination: Bin,
     from: Side,
     to: Side,
-    out: &mut Vec<u8>,
+    reply: &mut Pieces,
 ) -> Result<(), NoMemory>
     requires filled { IsFilled (held table.old.keys source) }
     requires list { IsTrue (is_some (lists.elements (held table.old.keys destination))) }
     requires apart { same source destination ≡ false }
-    ensures ok { OnOk result (Gives (lists.lmove source destination from to table.old.keys) table.new.keys out.old.items out.new.items) }
+    ensures ok { OnOk result (Gives (lists.lmove source destination from to table.old.keys) table.new.keys reply.new) }
     ensures keys { OnErr result (table.new.keys ≡ table.old.keys) }
-    ensures out { OnErr result (out.new.items ≡ out.old.items) }
 {
     table.reserve(2)?;
     let there = table.has(&destination);
     let mut left = take_list(alloc, table, &source);
     let mut received = take_list(alloc, table, &destination);
-    let result = pass(&mut left, &mut received, from, to, out);
+    let result = pass(&mut left, &mut received, from, to, reply);
     put_list(table, source, left, false);
     put_list(table, destination, received, there);
     result
@@ -196,42 +190,40 @@ fn pass(
     destination: &mut ListVal,
     from: Side,
     to: Side,
-    out: &mut Vec<u8>,
+    reply: &mut Pieces,
 ) -> Result<(), NoMemory>
     requires { 0 < length source.old.items }
-    ensures ok { OnOk result (Passes from to source.old.items source.new.items destination.old.items destination.new.items out.old.items out.new.items) }
+    ensures ok { OnOk result (Passes from to source.old.items source.new.items destination.old.items destination.new.items reply.new) }
     ensures kept { OnErr result ((source.new.items ≡ source.old.items) × (destination.new.items ≡ destination.old.items)) }
-    ensures out { OnErr result (out.new.items ≡ out.old.items) }
 {
     destination.reserve(1)?;
-    append_end(source, from, out)?;
+    put_end(source, from, reply)?;
     let element = pop(source, from);
     push(destination, to, element);
     Ok(())
 }
 
 /// Moves an element from one end of a list to an end of it.
-fn turn(list: &mut ListVal, from: Side, to: Side, out: &mut Vec<u8>) -> Result<(), NoMemory>
+fn turn(list: &mut ListVal, from: Side, to: Side, reply: &mut Pieces) -> Result<(), NoMemory>
     requires { 0 < length list.old.items }
-    ensures ok { OnOk result (Turns from to list.old.items list.new.items out.old.items out.new.items) }
+    ensures ok { OnOk result (Turns from to list.old.items list.new.items reply.new) }
     ensures kept { OnErr result (list.new.items ≡ list.old.items) }
-    ensures out { OnErr result (out.new.items ≡ out.old.items) }
 {
     list.reserve(1)?;
-    append_end(list, from, out)?;
+    put_end(list, from, reply)?;
     let element = pop(list, from);
     push(list, to, element);
     Ok(())
 }
 
-fn append_end(list: &ListVal, from: Side, out: &mut Vec<u8>) -> Result<(), NoMemory>
+/// The element at this end, as the reply.
+fn put_end(list: &ListVal, from: Side, reply: &mut Pieces) -> Result<(), NoMemory>
     requires { 0 < length list.now.items }
-    ensures ok { OnOk result (out.new.items ≡ out.old.items ++ encoding_of (bulk_or_null (slice_get (lists.taken from list.now.items) 0))) }
-    ensures err { OnErr result (out.new.items ≡ out.old.items) }
+    ensures { OnOk result (reply.new ≡ encoding_of (bulk_or_null (slice_get (lists.taken from list.now.items) 0))) }
 {
     match end_of(list, from) {
-        Some(element) => encode_bulk(element.as_slice(), out),
-        None => encode_null(out),
+        Some(element) => reply.put_bulk(element.as_slice()),
+        None => reply.put_null(),
     }
 }
 

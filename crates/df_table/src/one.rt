@@ -1,27 +1,28 @@
 //! Commands of one key on the one table.
 //!
-//! A command is prepared on what its key holds: its reply is encoded and all memory of its change is taken.
-//! Then the reply's bytes go to the output, which may find no memory, and the change is made, which can't.
+//! A command is prepared on what its key holds: its reply is written and all memory of its change is taken. Then the
+//! change is made, which takes none.
 
-ghost use Rattle.std.specs.Prelude.{◌≡◌, ◌++◌, Option, Some, None, OnOk, OnErr, IfOk};
+ghost use Rattle.std.specs.Prelude.{◌≡◌, Some, None, OnOk, OnErr, IfOk};
 ghost use Rattle.df_model.specs.Keyspace.{held};
 ghost use Rattle.df_model.specs.Access.{does, on_key};
 ghost use Rattle.df_model.specs.Meaning.{one};
-ghost use Rattle.df_model.specs.Outcomes.{outcome, settled};
-ghost use Rattle.df_model.specs.Replies.{encoding_of};
-ghost use Rattle.df_values.specs.Prepares.{Gives as Prepares};
+ghost use Rattle.df_model.specs.Outcomes.{outcome};
+ghost use Rattle.df_values.specs.Prepares.{Makes};
 ghost use Rattle.df_values.specs.Seen.{seen};
 ghost use Rattle.df_table.specs.Responses.{Gives};
 ghost use Rattle.df_table.specs.Fates.{Ran};
 
 use crate::table::Table;
 use df_model::{Bin, Family, NoMemory, OneOp};
-use df_values::{Change, Prepared, Value};
+use df_values::{Change, Pieces, Value};
 use std::alloc::Global;
 
-/// What becomes of a value on which a command was run.
+/// What becomes of a key's value on which a command was to be run.
 #[derive(Clone, Copy, Debug)]
 pub enum Fate {
+    /// There is none, so nothing was run.
+    Missing,
     Stays,
     /// Its key is to be removed.
     Goes,
@@ -32,46 +33,42 @@ impl Table {
     pub fn run_one(
         &mut self,
         alloc: Global,
-        key: Bin,
-        op: OneOp,
-        out: &mut Vec<u8>,
+        key: &mut Bin,
+        op: &mut OneOp,
+        reply: &mut Pieces,
     ) -> Result<(), NoMemory>
-        ensures ok { OnOk result (Gives (does (on_key key (one op)) self.old.keys) self.new.keys out.old.items out.new.items) }
+        ensures ok { OnOk result (Gives (does (on_key key.old (one op.old)) self.old.keys) self.new.keys reply.new) }
         ensures keys { OnErr result (self.new.keys ≡ self.old.keys) }
-        ensures out { OnErr result (out.new.items ≡ out.old.items) }
     {
-        if !self.has(&key) {
-            return self.run_on_nothing(alloc, key, op, out);
+        match self.run_on_held(alloc, key, op, reply)? {
+            Fate::Stays => Ok(()),
+            Fate::Goes => {
+                self.forget(key);
+                Ok(())
+            }
+            Fate::Missing => self.run_on_nothing(alloc, key, op, reply),
         }
-        match self.run_on_held(alloc, &key, op, out)? {
-            Fate::Stays => {}
-            Fate::Goes => self.forget(&key),
-        }
-        Ok(())
     }
 
     /// Runs the command where the key isn't there.
     fn run_on_nothing(
         &mut self,
         alloc: Global,
-        key: Bin,
-        op: OneOp,
-        out: &mut Vec<u8>,
+        key: &mut Bin,
+        op: &mut OneOp,
+        reply: &mut Pieces,
     ) -> Result<(), NoMemory>
-        requires { held self.old.keys key ≡ None }
-        ensures ok { OnOk result (Gives (does (on_key key (one op)) self.old.keys) self.new.keys out.old.items out.new.items) }
+        requires { held self.old.keys key.old ≡ None }
+        ensures ok { OnOk result (Gives (does (on_key key.old (one op.old)) self.old.keys) self.new.keys reply.new) }
         ensures keys { OnErr result (self.new.keys ≡ self.old.keys) }
-        ensures out { OnErr result (out.new.items ≡ out.old.items) }
     {
-        let Prepared { reply, change } = prepare_on_nothing(alloc, op)?;
-        match change {
+        match prepare_on_nothing(alloc, op, reply)? {
             Change::Put(value) => {
                 self.reserve(1)?;
-                reply.append_to(out)?;
-                self.put(key, value);
+                self.put(key.take(), value);
                 Ok(())
             }
-            _ => reply.append_to(out),
+            _ => Ok(()),
         }
     }
 }
@@ -79,17 +76,14 @@ impl Table {
 /// Runs the command on a value, but for the removal of its key.
 pub fn run_on(
     alloc: Global,
-    op: OneOp,
+    op: &mut OneOp,
     value: &mut Value,
-    out: &mut Vec<u8>,
+    reply: &mut Pieces,
 ) -> Result<Fate, NoMemory>
-    ensures ok { IfOk result (λ fate. Ran fate (outcome (one op) (Some (seen value.old))) (seen value.old) (seen value.new) out.old.items out.new.items) }
+    ensures ok { IfOk result (λ fate. Ran fate (outcome (one op.old) (Some (seen value.old))) (seen value.old) (seen value.new) reply.new) }
     ensures value { OnErr result (seen value.new ≡ seen value.old) }
-    ensures out { OnErr result (out.new.items ≡ out.old.items) }
 {
-    let Prepared { reply, change } = prepare_on(alloc, op, value)?;
-    reply.append_to(out)?;
-    match change {
+    match prepare_on(alloc, op, value, reply)? {
         Change::Keep => Ok(Fate::Stays),
         Change::Put(new) => {
             *value = new;
@@ -104,26 +98,31 @@ pub fn run_on(
 }
 
 /// Prepares a command of a key that isn't there, by the command's family.
-fn prepare_on_nothing(alloc: Global, op: OneOp) -> Result<Prepared, NoMemory>
-    ensures { IfOk result (λ prepared. Prepares (outcome (one op) None) None prepared) }
+fn prepare_on_nothing(alloc: Global, op: &mut OneOp, reply: &mut Pieces) -> Result<Change, NoMemory>
+    ensures { IfOk result (λ change. Makes (outcome (one op.old) None) None reply.new change) }
 {
     match op.family() {
-        Family::Any | Family::Strings => df_strings::prepare(alloc, op, None),
-        Family::Lists => df_lists::prepare(alloc, op, None),
-        Family::Hashes => df_hashes::prepare(alloc, op, None),
-        Family::Sets => df_sets::prepare(alloc, op, None),
+        Family::Any | Family::Strings => df_strings::prepare_into(alloc, op, None, reply),
+        Family::Lists => df_lists::prepare_into(alloc, op, None, reply),
+        Family::Hashes => df_hashes::prepare_into(alloc, op, None, reply),
+        Family::Sets => df_sets::prepare_into(alloc, op, None, reply),
     }
 }
 
 /// Prepares a command of a key that holds this value.
-fn prepare_on(alloc: Global, op: OneOp, value: &mut Value) -> Result<Prepared, NoMemory>
-    ensures ok { IfOk result (λ prepared. Prepares (outcome (one op) (Some (seen value.old))) (Some value.new) prepared) }
+fn prepare_on(
+    alloc: Global,
+    op: &mut OneOp,
+    value: &mut Value,
+    reply: &mut Pieces,
+) -> Result<Change, NoMemory>
+    ensures ok { IfOk result (λ change. Makes (outcome (one op.old) (Some (seen value.old))) (Some value.new) reply.new change) }
     ensures kept { seen value.new ≡ seen value.old }
 {
     match op.family() {
-        Family::Any | Family::Strings => df_strings::prepare(alloc, op, Some(value)),
-        Family::Lists => df_lists::prepare(alloc, op, Some(value)),
-        Family::Hashes => df_hashes::prepare(alloc, op, Some(value)),
-        Family::Sets => df_sets::prepare(alloc, op, Some(value)),
+        Family::Any | Family::Strings => df_strings::prepare_into(alloc, op, Some(value), reply),
+        Family::Lists => df_lists::prepare_into(alloc, op, Some(value), reply),
+        Family::Hashes => df_hashes::prepare_into(alloc, op, Some(value), reply),
+        Family::Sets => df_sets::prepare_into(alloc, op, Some(value), reply),
     }
 }

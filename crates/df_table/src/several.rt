@@ -11,39 +11,29 @@ ghost use Rattle.df_model.specs.Meaning.Any as any;
 ghost use Rattle.df_model.specs.Meaning.Strings as strings;
 ghost use Rattle.df_model.specs.Replies.{encoding_of};
 ghost use Rattle.df_model.specs.declared.reply.Reply.{Reply};
-ghost use Rattle.df_resp.specs.Appended.{GrowsBy};
 ghost use Rattle.df_values.specs.Seen.{seen};
 ghost use Rattle.df_table.specs.Responses.{Gives};
 
-use crate::lines::{push_count, reserve_line};
 use crate::table::Table;
 use df_model::{Bin, ErrorText, NoMemory, Pairs};
-use df_resp::{
-    encode_array_head, encode_bulk, encode_count, encode_error, encode_null, encode_simple,
-};
-use df_values::{StrVal, Value};
+use df_values::{Pieces, StrVal, Value};
 
-/// DEL and UNLINK.
-pub fn del(table: &mut Table, words: &[Bin], out: &mut Vec<u8>) -> Result<(), NoMemory>
-    ensures ok { OnOk result (Gives (any.del words.now table.old.keys) table.new.keys out.old.items out.new.items) }
-    ensures keys { OnErr result (table.new.keys ≡ table.old.keys) }
-    ensures out { OnErr result (out.new.items ≡ out.old.items) }
+/// DEL and UNLINK. The count takes no memory, since it is known only once the keys are gone.
+pub fn del(table: &mut Table, words: &[Bin], reply: &mut Pieces)
+    ensures { Gives (any.del words.now table.old.keys) table.new.keys reply.new }
 {
-    reserve_line(out)?;
     let before = table.len();
     'words: for word in words {
         let _value = table.remove(word);
     }
-    push_count(before - table.len(), out);
-    Ok(())
+    reply.put_count_in_place(before - table.len());
 }
 
 /// EXISTS. A repeated key counts again.
-pub fn exists(table: &Table, words: &[Bin], out: &mut Vec<u8>) -> Result<(), NoMemory>
-    ensures ok { OnOk result (out.new.items ≡ out.old.items ++ encoding_of (any.exists words.now table.now.keys)) }
-    ensures err { OnErr result (out.new.items ≡ out.old.items) }
+pub fn exists(table: &Table, words: &[Bin], reply: &mut Pieces) -> Result<(), NoMemory>
+    ensures { OnOk result (reply.new ≡ encoding_of (any.exists words.now table.now.keys)) }
 {
-    encode_count(count_present(table, words), out)
+    reply.put_count(count_present(table, words))
 }
 
 fn count_present(table: &Table, words: &[Bin]) -> usize
@@ -59,63 +49,46 @@ fn count_present(table: &Table, words: &[Bin]) -> usize
 }
 
 /// MGET. Another kind of value counts as none.
-pub fn mget(table: &Table, words: &[Bin], out: &mut Vec<u8>) -> Result<(), NoMemory>
-    ensures ok { OnOk result (out.new.items ≡ out.old.items ++ encoding_of (strings.mget words.now table.now.keys)) }
-    ensures err { OnErr result (out.new.items ≡ out.old.items) }
+pub fn mget(table: &Table, words: &[Bin], reply: &mut Pieces) -> Result<(), NoMemory>
+    ensures { OnOk result (reply.new ≡ encoding_of (strings.mget words.now table.now.keys)) }
 {
-    let len = out.len();
-    if let Err(refused) = push_strings(table, words, out) {
-        out.truncate(len);
-        return Err(refused);
-    }
-    Ok(())
-}
-
-/// What the keys hold, one after another behind their count.
-fn push_strings(table: &Table, words: &[Bin], out: &mut Vec<u8>) -> Result<(), NoMemory>
-    ensures ok { OnOk result (out.new.items ≡ out.old.items ++ encoding_of (strings.mget words.now table.now.keys)) }
-    ensures grows { GrowsBy out.old.items out.new.items }
-{
-    encode_array_head(words.len(), out)?;
+    reply.put_array_head(words.len())?;
     'words: for word in words {
-        push_string(table.get(word), out)?;
+        add_string(table.get(word), reply)?;
     }
     Ok(())
 }
 
-fn push_string(value: Option<&Value>, out: &mut Vec<u8>) -> Result<(), NoMemory>
-    ensures ok { OnOk result (out.new.items ≡ out.old.items ++ encoding_of (strings.string_or_null (option_map seen (option_copied value.entry)))) }
-    ensures err { OnErr result (out.new.items ≡ out.old.items) }
+fn add_string(value: Option<&Value>, reply: &mut Pieces) -> Result<(), NoMemory>
+    ensures { OnOk result (reply.new ≡ reply.old ++ encoding_of (strings.string_or_null (option_map seen (option_copied value.entry)))) }
 {
     match value {
-        Some(Value::Str(text)) => encode_bulk(text.as_slice(), out),
-        _ => encode_null(out),
+        Some(Value::Str(text)) => reply.add_bulk(text.as_slice()),
+        _ => reply.add_null(),
     }
 }
 
 /// MSET.
-pub fn mset(table: &mut Table, pairs: Pairs, out: &mut Vec<u8>) -> Result<(), NoMemory>
-    ensures ok { OnOk result (Gives (strings.mset pairs.items table.old.keys) table.new.keys out.old.items out.new.items) }
+pub fn mset(table: &mut Table, pairs: Pairs, reply: &mut Pieces) -> Result<(), NoMemory>
+    ensures ok { OnOk result (Gives (strings.mset pairs.items table.old.keys) table.new.keys reply.new) }
     ensures keys { OnErr result (table.new.keys ≡ table.old.keys) }
-    ensures out { OnErr result (out.new.items ≡ out.old.items) }
 {
     table.reserve(pairs.len())?;
-    encode_simple(b"OK", out)?;
+    reply.put_ok()?;
     put_strings(table, pairs);
     Ok(())
 }
 
 /// MSETNX: all or nothing.
-pub fn msetnx(table: &mut Table, pairs: Pairs, out: &mut Vec<u8>) -> Result<(), NoMemory>
-    ensures ok { OnOk result (Gives (strings.msetnx pairs.items table.old.keys) table.new.keys out.old.items out.new.items) }
+pub fn msetnx(table: &mut Table, pairs: Pairs, reply: &mut Pieces) -> Result<(), NoMemory>
+    ensures ok { OnOk result (Gives (strings.msetnx pairs.items table.old.keys) table.new.keys reply.new) }
     ensures keys { OnErr result (table.new.keys ≡ table.old.keys) }
-    ensures out { OnErr result (out.new.items ≡ out.old.items) }
 {
     if any_present(table, pairs.as_slice()) {
-        return encode_count(0, out);
+        return reply.put_count(0);
     }
     table.reserve(pairs.len())?;
-    encode_count(1, out)?;
+    reply.put_count(1)?;
     put_strings(table, pairs);
     Ok(())
 }
@@ -147,18 +120,17 @@ pub fn rename(
     table: &mut Table,
     source: Bin,
     destination: Bin,
-    out: &mut Vec<u8>,
+    reply: &mut Pieces,
 ) -> Result<(), NoMemory>
-    ensures ok { OnOk result (Gives (any.rename source destination table.old.keys) table.new.keys out.old.items out.new.items) }
+    ensures ok { OnOk result (Gives (any.rename source destination table.old.keys) table.new.keys reply.new) }
     ensures keys { OnErr result (table.new.keys ≡ table.old.keys) }
-    ensures out { OnErr result (out.new.items ≡ out.old.items) }
 {
     if !table.has(&source) {
-        return encode_error(&ErrorText::NoSuchKey, out);
+        return reply.put_error(&ErrorText::NoSuchKey);
     }
     // Onto itself a key is moved too, and stays.
     table.reserve(1)?;
-    encode_simple(b"OK", out)?;
+    reply.put_ok()?;
     move_value(table, source, destination);
     Ok(())
 }
@@ -168,20 +140,19 @@ pub fn renamenx(
     table: &mut Table,
     source: Bin,
     destination: Bin,
-    out: &mut Vec<u8>,
+    reply: &mut Pieces,
 ) -> Result<(), NoMemory>
-    ensures ok { OnOk result (Gives (any.renamenx source destination table.old.keys) table.new.keys out.old.items out.new.items) }
+    ensures ok { OnOk result (Gives (any.renamenx source destination table.old.keys) table.new.keys reply.new) }
     ensures keys { OnErr result (table.new.keys ≡ table.old.keys) }
-    ensures out { OnErr result (out.new.items ≡ out.old.items) }
 {
     if !table.has(&source) {
-        return encode_error(&ErrorText::NoSuchKey, out);
+        return reply.put_error(&ErrorText::NoSuchKey);
     }
     if table.has(&destination) {
-        return encode_count(0, out);
+        return reply.put_count(0);
     }
     table.reserve(1)?;
-    encode_count(1, out)?;
+    reply.put_count(1)?;
     move_value(table, source, destination);
     Ok(())
 }

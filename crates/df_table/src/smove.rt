@@ -14,8 +14,7 @@ ghost use Rattle.df_table.specs.Responses.{Gives};
 use crate::table::Table;
 use df_colls::SetVal;
 use df_model::{Bin, ErrorText, NoMemory};
-use df_resp::{encode_count, encode_error};
-use df_values::Value;
+use df_values::{Pieces, Value};
 use std::alloc::Global;
 
 /// What SMOVE finds at a key.
@@ -37,17 +36,16 @@ pub fn smove(
     source: Bin,
     destination: Bin,
     member: Bin,
-    out: &mut Vec<u8>,
+    reply: &mut Pieces,
 ) -> Result<(), NoMemory>
-    ensures ok { OnOk result (Gives (sets.smove source destination member table.old.keys) table.new.keys out.old.items out.new.items) }
+    ensures ok { OnOk result (Gives (sets.smove source destination member table.old.keys) table.new.keys reply.new) }
     ensures keys { OnErr result (table.new.keys ≡ table.old.keys) }
-    ensures out { OnErr result (out.new.items ≡ out.old.items) }
 {
     match look(table.get(&source), &member) {
-        SetHere::Missing => encode_count(0, out),
-        SetHere::Other => encode_error(&ErrorText::WrongKind, out),
-        SetHere::Without => answer_without(table, source, destination, member, out),
-        SetHere::With => move_from(alloc, table, source, destination, member, out),
+        SetHere::Missing => reply.put_count(0),
+        SetHere::Other => reply.put_error(&ErrorText::WrongKind),
+        SetHere::Without => answer_without(table, source, destination, member, reply),
+        SetHere::With => move_from(alloc, table, source, destination, member, reply),
     }
 }
 
@@ -73,16 +71,15 @@ fn answer_without(
     source: Bin,
     destination: Bin,
     member: Bin,
-    out: &mut Vec<u8>,
+    reply: &mut Pieces,
 ) -> Result<(), NoMemory>
     requires { Has false member (held table.old.keys source) }
-    ensures ok { OnOk result (Gives (sets.smove source destination member table.old.keys) table.new.keys out.old.items out.new.items) }
+    ensures ok { OnOk result (Gives (sets.smove source destination member table.old.keys) table.new.keys reply.new) }
     ensures keys { OnErr result (table.new.keys ≡ table.old.keys) }
-    ensures out { OnErr result (out.new.items ≡ out.old.items) }
 {
     match look(table.get(&destination), &member) {
-        SetHere::Other => encode_error(&ErrorText::WrongKind, out),
-        _ => encode_count(0, out),
+        SetHere::Other => reply.put_error(&ErrorText::WrongKind),
+        _ => reply.put_count(0),
     }
 }
 
@@ -93,19 +90,18 @@ fn move_from(
     source: Bin,
     destination: Bin,
     member: Bin,
-    out: &mut Vec<u8>,
+    reply: &mut Pieces,
 ) -> Result<(), NoMemory>
     requires { Has true member (held table.old.keys source) }
-    ensures ok { OnOk result (Gives (sets.smove source destination member table.old.keys) table.new.keys out.old.items out.new.items) }
+    ensures ok { OnOk result (Gives (sets.smove source destination member table.old.keys) table.new.keys reply.new) }
     ensures keys { OnErr result (table.new.keys ≡ table.old.keys) }
-    ensures out { OnErr result (out.new.items ≡ out.old.items) }
 {
     if source == destination {
-        return encode_count(1, out);
+        return reply.put_count(1);
     }
     match look(table.get(&destination), &member) {
-        SetHere::Other => encode_error(&ErrorText::WrongKind, out),
-        _ => send(alloc, table, source, destination, member, out),
+        SetHere::Other => reply.put_error(&ErrorText::WrongKind),
+        _ => send(alloc, table, source, destination, member, reply),
     }
 }
 
@@ -116,20 +112,19 @@ fn send(
     source: Bin,
     destination: Bin,
     member: Bin,
-    out: &mut Vec<u8>,
+    reply: &mut Pieces,
 ) -> Result<(), NoMemory>
     requires has { Has true member (held table.old.keys source) }
     requires set { IsTrue (is_some (sets.members_of (held table.old.keys destination))) }
     requires apart { same source destination ≡ false }
-    ensures ok { OnOk result (Gives (sets.smove source destination member table.old.keys) table.new.keys out.old.items out.new.items) }
+    ensures ok { OnOk result (Gives (sets.smove source destination member table.old.keys) table.new.keys reply.new) }
     ensures keys { OnErr result (table.new.keys ≡ table.old.keys) }
-    ensures out { OnErr result (out.new.items ≡ out.old.items) }
 {
     table.reserve(2)?;
     let there = table.has(&destination);
     let mut left = take_set(alloc, table, &source);
     let mut received = take_set(alloc, table, &destination);
-    let result = pass(&mut left, &mut received, member, out);
+    let result = pass(&mut left, &mut received, member, reply);
     put_set(table, source, left, false);
     put_set(table, destination, received, there);
     result
@@ -167,14 +162,13 @@ fn pass(
     source: &mut SetVal,
     destination: &mut SetVal,
     member: Bin,
-    out: &mut Vec<u8>,
+    reply: &mut Pieces,
 ) -> Result<(), NoMemory>
-    ensures ok { OnOk result (Joins member source.old.members source.new.members destination.old.members destination.new.members out.old.items out.new.items) }
+    ensures ok { OnOk result (Joins member source.old.members source.new.members destination.old.members destination.new.members reply.new) }
     ensures kept { OnErr result ((source.new.members ≡ source.old.members) × (destination.new.members ≡ destination.old.members)) }
-    ensures out { OnErr result (out.new.items ≡ out.old.items) }
 {
     destination.reserve(1)?;
-    encode_count(1, out)?;
+    reply.put_count(1)?;
     source.remove(member.as_slice());
     destination.add(member);
     Ok(())

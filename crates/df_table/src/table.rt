@@ -11,12 +11,12 @@ ghost use Rattle.std.specs.FinMap as fin;
 ghost use Rattle.df_model.specs.Keyspace.{held, with_held, no_keys};
 ghost use Rattle.df_model.specs.Meaning.{one};
 ghost use Rattle.df_values.specs.Seen.{seen};
-ghost use Rattle.df_table.specs.Fates.{RanAt};
+ghost use Rattle.df_table.specs.Fates.{RanWhere};
 
 use crate::one::{Fate, run_on};
 use df_model::{Bin, NoMemory, OneOp};
 use df_text::glob;
-use df_values::Value;
+use df_values::{Pieces, Value};
 use std::alloc::Global;
 use std::collections::HashMap;
 use std::marker::Model;
@@ -116,23 +116,22 @@ impl Table {
         self.map.clear();
     }
 
-    /// Runs a command on what the key holds, but for the removal of the key.
+    /// Runs a command on what the key holds, but for the removal of the key. Where the key isn't there, nothing is done
+    /// and nothing of the command is used.
     pub fn run_on_held(
         &mut self,
         alloc: Global,
         key: &Bin,
-        op: OneOp,
-        out: &mut Vec<u8>,
+        op: &mut OneOp,
+        reply: &mut Pieces,
     ) -> Result<Fate, NoMemory>
-        requires { IsTrue (is_some (held self.old.keys key.now)) }
-        ensures ok { IfOk result (λ fate. RanAt fate (one op) key.now self.old.keys self.new.keys out.old.items out.new.items) }
+        ensures ok { IfOk result (λ fate. RanWhere fate (one op.old) (one op.new) key.now self.old.keys self.new.keys reply.new) }
         ensures keys { OnErr result (self.new.keys ≡ self.old.keys) }
-        ensures out { OnErr result (out.new.items ≡ out.old.items) }
     {
-        match self.map.get_mut(key) {
-            Some(value) => run_on(alloc, op, value, out),
-            None => unreachable!(),
-        }
+        let Some(value) = self.map.get_mut(key) else {
+            return Ok(Fate::Missing);
+        };
+        run_on(alloc, op, value, reply)
     }
 
     /// The keys that match the pattern, in byte order, lent.

@@ -7,31 +7,29 @@ ghost use Rattle.df_model.specs.Outcomes.{bulks};
 ghost use Rattle.df_model.specs.Replies.{encoding_of};
 ghost use Rattle.df_model.specs.Reads.{IsLinked};
 ghost use Rattle.df_model.specs.declared.command.Command.{Command};
-ghost use Rattle.df_resp.specs.Appended.{GrowsBy};
 ghost use Rattle.df_table.specs.Responses.{Gives};
 
 use crate::table::Table;
 use df_model::{Bin, NoMemory, WholeOp};
-use df_resp::{encode_array_head, encode_bulk, encode_count, encode_simple};
+use df_values::Pieces;
 use std::alloc::Global;
 
 /// Runs a command of the whole keyspace.
 pub fn run_whole(
     alloc: Global,
     table: &mut Table,
-    op: WholeOp,
-    out: &mut Vec<u8>,
+    op: &WholeOp,
+    reply: &mut Pieces,
 ) -> Result<(), NoMemory>
-    requires { IsLinked (Command.Whole op) }
-    ensures ok { OnOk result (Gives (whole op table.old.keys) table.new.keys out.old.items out.new.items) }
+    requires { IsLinked (Command.Whole op.now) }
+    ensures ok { OnOk result (Gives (whole op.now table.old.keys) table.new.keys reply.new) }
     ensures keys { OnErr result (table.new.keys ≡ table.old.keys) }
-    ensures out { OnErr result (out.new.items ≡ out.old.items) }
 {
     match op {
-        WholeOp::Dbsize => encode_count(table.len(), out),
-        WholeOp::Keys(pattern) => keys_like(alloc, table, &pattern, out),
+        WholeOp::Dbsize => reply.put_count(table.len()),
+        WholeOp::Keys(pattern) => keys_like(alloc, table, pattern, reply),
         WholeOp::Flushall | WholeOp::Flushdb => {
-            encode_simple(b"OK", out)?;
+            reply.put_ok()?;
             table.clear();
             Ok(())
         }
@@ -40,27 +38,25 @@ pub fn run_whole(
 }
 
 /// KEYS.
-fn keys_like(alloc: Global, table: &Table, pattern: &Bin, out: &mut Vec<u8>) -> Result<(), NoMemory>
-    ensures ok { OnOk result (out.new.items ≡ out.old.items ++ encoding_of (keyless.keys pattern.now table.now.keys).0) }
-    ensures err { OnErr result (out.new.items ≡ out.old.items) }
+fn keys_like(
+    alloc: Global,
+    table: &Table,
+    pattern: &Bin,
+    reply: &mut Pieces,
+) -> Result<(), NoMemory>
+    ensures { OnOk result (reply.new ≡ encoding_of (keyless.keys pattern.now table.now.keys).0) }
 {
     let names = table.names(alloc, pattern.as_slice())?;
-    let len = out.len();
-    if let Err(refused) = push_names(names.as_slice(), out) {
-        out.truncate(len);
-        return Err(refused);
-    }
-    Ok(())
+    put_names(names.as_slice(), reply)
 }
 
 /// The names behind their count.
-fn push_names(names: &[&Bin], out: &mut Vec<u8>) -> Result<(), NoMemory>
-    ensures ok { OnOk result (out.new.items ≡ out.old.items ++ encoding_of (bulks (map (λ name. name.now) names.now))) }
-    ensures grows { GrowsBy out.old.items out.new.items }
+fn put_names(names: &[&Bin], reply: &mut Pieces) -> Result<(), NoMemory>
+    ensures { OnOk result (reply.new ≡ encoding_of (bulks (map (λ name. name.now) names.now))) }
 {
-    encode_array_head(names.len(), out)?;
+    reply.put_array_head(names.len())?;
     'names: for name in names {
-        encode_bulk(name.as_slice(), out)?;
+        reply.add_bulk(name.as_slice())?;
     }
     Ok(())
 }

@@ -43,8 +43,8 @@ returns-clause-ok c =
     let put = put_both K Kr K1 c.take_list-received.new.table.keys c.put_list.new.table.keys c.put_list-2.new.table.keys s d (put_as false left) (put_as there now) c.requires.apart
     c.reserve.ensures.keys c.take_list-left.ensures.keys c.take_list-received.ensures.keys c.put_list.ensures.keys c.put_list-2.ensures.keys in
     on_ok_weaker c.pass-result.result
-    (λ (p : Passes c.args.from c.args.to xs left ys now c.args.out.now.items c.pass-result.new.out.items).
-    passed s d c.args.from c.args.to K c.put_list-2.new.table.keys there xs left ys now c.args.out.now.items c.pass-result.new.out.items c.requires.apart c.requires.filled at_s at_d put p)
+    (λ (p : Passes c.args.from c.args.to xs left ys now c.pass-result.new.reply).
+    passed s d c.args.from c.args.to K c.put_list-2.new.table.keys there xs left ys now c.pass-result.new.reply c.requires.apart c.requires.filled at_s at_d put p)
     c.pass-result.ensures.ok
 
 pub returns-clause-keys : goal.returns-clause-keys

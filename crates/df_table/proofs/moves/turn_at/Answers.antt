@@ -20,8 +20,8 @@ returns-clause-ok c =
     let at = sym (ap (λ k. elements (held k c.args.key)) c.reserve.ensures.keys) ∙ c.take_list-list.ensures.list in
     let put = one_over K c.reserve.new.self.keys c.take_list-list.new.table.keys c.put_list.new.table.keys c.args.key (Some (Value.Elements now)) c.reserve.ensures.keys c.take_list-list.ensures.keys c.put_list.ensures.keys in
     on_ok_weaker c.turn-result.result
-    (λ (t : Turns c.args.from c.args.to c.take_list-list.result.items now c.args.out.now.items c.turn-result.new.out.items).
-    turned c.args.key c.args.from c.args.to K c.put_list.new.table.keys c.take_list-list.result.items now c.args.out.now.items c.turn-result.new.out.items c.requires at put t)
+    (λ (t : Turns c.args.from c.args.to c.take_list-list.result.items now c.turn-result.new.reply).
+    turned c.args.key c.args.from c.args.to K c.put_list.new.table.keys c.take_list-list.result.items now c.turn-result.new.reply c.requires at put t)
     c.turn-result.ensures.ok
 
 pub returns-clause-keys : goal.returns-clause-keys

@@ -5,5 +5,5 @@ use Rattle.df_table.proofs.several.renamenx.Goals as goal
 
 pub returns-clause-ok : goal.returns-clause-ok
 returns-clause-ok c =
-    renamed_unless c.args.source c.args.destination c.args.table.now.keys c.reserve.new.self.keys c.move_value.new.table.keys c.args.out.now.items c.encode_count-2.new.to.items
-    (search rules) (sym c.has-2.ensures ∙ c.if-has.false) c.reserve.ensures.keys (c.move_value.ensures (count 1)) c.in_ok-encode_count.ensures.ok
+    renamed_unless c.args.source c.args.destination c.args.table.now.keys c.reserve.new.self.keys c.move_value.new.table.keys c.put_count-2.new.self
+    (search rules) (sym c.has-2.ensures ∙ c.if-has.false) c.reserve.ensures.keys (c.move_value.ensures (count 1)) c.in_ok-put_count.ensures

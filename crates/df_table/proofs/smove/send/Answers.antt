@@ -44,8 +44,8 @@ returns-clause-ok c =
     let put = put_both K Kr K1 c.take_set-received.new.table.keys c.put_set.new.table.keys c.put_set-2.new.table.keys s d (put_as false left) (put_as there now) c.requires.apart
     c.reserve.ensures.keys c.take_set-left.ensures.keys c.take_set-received.ensures.keys c.put_set.ensures.keys c.put_set-2.ensures.keys in
     on_ok_weaker c.pass-result.result
-    (λ (p : Joins c.args.member xs left ys now c.args.out.now.items c.pass-result.new.out.items).
-    joins s d c.args.member K c.put_set-2.new.table.keys there xs left ys now c.args.out.now.items c.pass-result.new.out.items c.requires.apart c.requires.has at_s at_d put p)
+    (λ (p : Joins c.args.member xs left ys now c.pass-result.new.reply).
+    joins s d c.args.member K c.put_set-2.new.table.keys there xs left ys now c.pass-result.new.reply c.requires.apart c.requires.has at_s at_d put p)
     c.pass-result.ensures.ok
 
 pub returns-clause-keys : goal.returns-clause-keys
