@@ -7,6 +7,7 @@ use crate::place::{Place, is_due, served};
 use df_caller::{Caller, Went};
 use df_model::Call;
 use df_table::Table;
+use df_values::Pieces;
 use std::alloc::Global;
 use std::marker::Model;
 use std::mem;
@@ -16,7 +17,7 @@ use std::mem;
 pub struct Desk {
     place: Place,
     /// The reply's bytes. Their memory is kept from call to call.
-    reply: Vec<u8>,
+    reply: Pieces,
     stalls: u64,
     answered: Answered,
 }
@@ -34,7 +35,7 @@ impl Model for Desk {
 
     ghost view = { desk_of };
 
-    ghost invariant = { λ d. said_at d.place d.reply.items };
+    ghost invariant = { λ d. said_at d.place d.reply };
 }
 
 impl Desk {
@@ -48,7 +49,7 @@ impl Desk {
     {
         Desk {
             place: Place::Empty,
-            reply: Vec::new(alloc),
+            reply: Pieces::new(alloc),
             stalls: 0,
             answered: Answered::new(),
         }
@@ -104,7 +105,7 @@ impl Caller for Desk {
             Place::Waits(_) | Place::Empty => unreachable!(),
             Place::Ran(ran) => {
                 self.answered.push(ran);
-                match out.extend_from_slice(self.reply.as_slice()) {
+                match self.reply.append_to(out) {
                     Ok(()) => Went::Finished,
                     Err(_none) => Went::Unsaid,
                 }

@@ -13,17 +13,17 @@ ghost use Rattle.df_desk.specs.Runs.{HasRun};
 
 use crate::place::{Place, run_command};
 use crate::ran::Ran;
-use df_model::{Bin, Call, Command, Commands, ErrorText, NoMemory, Reserved};
-use df_resp::{encode_array_head, encode_error};
+use df_model::{Call, Command, Commands, ErrorText, NoMemory, Reserved};
 use df_table::Table;
+use df_values::Pieces;
 use std::alloc::Global;
 use std::snapshot::Snapshot;
 
 /// What a command of an EXEC was answered.
 #[derive(Drop)]
 pub(crate) enum Part {
-    /// It ran, and these are its reply's bytes.
-    Said(Bin),
+    /// It ran, and this is its reply.
+    Said(Pieces),
     /// It found no memory and changed nothing.
     Refused,
 }
@@ -34,11 +34,10 @@ pub(crate) fn run_exec(
     call: Snapshot<Call>,
     commands: Commands,
     table: &mut Table,
-    reply: &mut Vec<u8>,
+    reply: &mut Pieces,
 ) -> Place
-    requires call { call.value ≡ Exec commands }
-    requires empty { reply.old.items ≡ [] }
-    ensures { HasRun result call.value table.old.keys table.new.keys reply.new.items }
+    requires { call.value ≡ Exec commands }
+    ensures { HasRun result call.value table.old.keys table.new.keys reply.new }
 {
     let mut parts = Reserved::new(alloc);
     let Ok(()) = parts.reserve(commands.len()) else {
@@ -66,35 +65,32 @@ fn run_each(alloc: Global, commands: Commands, table: &mut Table, parts: &mut Re
 }
 
 /// Runs a command, and keeps its reply in memory of its own.
-fn run_one(alloc: Global, command: Command, table: &mut Table) -> Part
+fn run_one(alloc: Global, mut command: Command, table: &mut Table) -> Part
     ensures { Gave result command table.old.keys table.new.keys }
 {
-    let mut bytes = Vec::new(alloc);
-    match run_command(alloc, command, table, &mut bytes) {
-        Ok(()) => Part::Said(Bin::from_vec(bytes)),
+    let mut reply = Pieces::new(alloc);
+    match run_command(alloc, &mut command, table, &mut reply) {
+        Ok(()) => Part::Said(reply),
         Err(_none) => Part::Refused,
     }
 }
 
 /// The parts behind their count. Where memory runs out, nothing is said of what stands.
-fn join(parts: &[Part], reply: &mut Vec<u8>) -> Result<(), NoMemory>
-    ensures { OnOk result (reply.new.items ≡ reply.old.items ++ (codes "*" ++ decimal (length parts.now) ++ crlf ++ flat_map bytes_of parts.now)) }
+fn join(parts: &[Part], reply: &mut Pieces) -> Result<(), NoMemory>
+    ensures { OnOk result (reply.new ≡ codes "*" ++ decimal (length parts.now) ++ crlf ++ flat_map bytes_of parts.now) }
 {
-    encode_array_head(parts.len(), reply)?;
+    reply.put_array_head(parts.len())?;
     'parts: for part in parts {
         add_part(part, reply)?;
     }
     Ok(())
 }
 
-fn add_part(part: &Part, reply: &mut Vec<u8>) -> Result<(), NoMemory>
-    ensures { OnOk result (reply.new.items ≡ reply.old.items ++ bytes_of part.now) }
+fn add_part(part: &Part, reply: &mut Pieces) -> Result<(), NoMemory>
+    ensures { OnOk result (reply.new ≡ reply.old ++ bytes_of part.now) }
 {
     match part {
-        Part::Said(bytes) => {
-            reply.extend_from_slice(bytes.as_slice())?;
-            Ok(())
-        }
-        Part::Refused => encode_error(&ErrorText::Memory, reply),
+        Part::Said(said) => reply.add_all(said),
+        Part::Refused => reply.add_error(&ErrorText::Memory),
     }
 }

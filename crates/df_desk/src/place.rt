@@ -7,7 +7,7 @@
 //!     Unsaid     it ran, and its reply found no memory
 //!     NoMemory   it found none, and never ran
 
-ghost use Rattle.std.specs.Prelude.{◌≡◌, [], OnOk, OnErr};
+ghost use Rattle.std.specs.Prelude.{◌≡◌, OnOk, OnErr};
 ghost use Rattle.df_model.specs.Meaning.{meaning};
 ghost use Rattle.df_model.specs.Reads.{saves};
 ghost use Rattle.df_model.specs.declared.command.Call.TheVariants.{Single};
@@ -19,6 +19,7 @@ use crate::exec::run_exec;
 use crate::ran::Ran;
 use df_model::{Call, Command, NoMemory, Reserved, WholeOp};
 use df_table::Table;
+use df_values::Pieces;
 use std::alloc::Global;
 use std::snapshot::Snapshot;
 
@@ -46,8 +47,8 @@ pub(crate) fn is_due(place: &Place) -> bool
 }
 
 /// Runs the call, if it waits.
-pub(crate) fn served(place: Place, alloc: Global, table: &mut Table, reply: &mut Vec<u8>) -> Place
-    ensures { HasServed result place table.old.keys table.new.keys reply.old.items reply.new.items }
+pub(crate) fn served(place: Place, alloc: Global, table: &mut Table, reply: &mut Pieces) -> Place
+    ensures { HasServed result place table.old.keys table.new.keys reply.old reply.new }
 {
     match place {
         Place::Waits(call) => run(alloc, call, table, reply),
@@ -59,11 +60,10 @@ pub(crate) fn served(place: Place, alloc: Global, table: &mut Table, reply: &mut
 }
 
 /// Runs a call, and leaves its reply.
-fn run(alloc: Global, call: Call, table: &mut Table, reply: &mut Vec<u8>) -> Place
-    ensures { HasRun result call table.old.keys table.new.keys reply.new.items }
+fn run(alloc: Global, call: Call, table: &mut Table, reply: &mut Pieces) -> Place
+    ensures { HasRun result call table.old.keys table.new.keys reply.new }
 {
     let kept = Snapshot::of(&call);
-    reply.clear();
     match call {
         Call::Single(command) => run_single(alloc, kept, command, table, reply),
         Call::Exec(commands) => run_exec(alloc, kept, commands, table, reply),
@@ -73,17 +73,16 @@ fn run(alloc: Global, call: Call, table: &mut Table, reply: &mut Vec<u8>) -> Pla
 fn run_single(
     alloc: Global,
     call: Snapshot<Call>,
-    command: Command,
+    mut command: Command,
     table: &mut Table,
-    reply: &mut Vec<u8>,
+    reply: &mut Pieces,
 ) -> Place
-    requires call { call.value ≡ Single command }
-    requires empty { reply.old.items ≡ [] }
-    ensures { HasRun result call.value table.old.keys table.new.keys reply.new.items }
+    requires { call.value ≡ Single command }
+    ensures { HasRun result call.value table.old.keys table.new.keys reply.new }
 {
     let before = Snapshot::of(table);
     let parts = Reserved::new(alloc);
-    match run_command(alloc, command, table, reply) {
+    match run_command(alloc, &mut command, table, reply) {
         Ok(()) => Place::Ran(Ran::new(call, before, Snapshot::of(&parts))),
         Err(_none) => Place::NoMemory(call),
     }
@@ -92,17 +91,17 @@ fn run_single(
 /// Runs a command. A SAVE is answered as one that finds no memory: no word spells it.
 pub(crate) fn run_command(
     alloc: Global,
-    command: Command,
+    command: &mut Command,
     table: &mut Table,
-    out: &mut Vec<u8>,
+    reply: &mut Pieces,
 ) -> Result<(), NoMemory>
-    ensures ok { OnOk result (Gives (meaning command table.old.keys) table.new.keys out.old.items out.new.items) }
+    ensures ok { OnOk result (Gives (meaning command.old table.old.keys) table.new.keys reply.new) }
     ensures keys { OnErr result (table.new.keys ≡ table.old.keys) }
 {
-    if is_save(&command) {
+    if is_save(command) {
         return Err(NoMemory);
     }
-    table.run(alloc, command, out)
+    table.run_command(alloc, command, reply)
 }
 
 fn is_save(command: &Command) -> bool

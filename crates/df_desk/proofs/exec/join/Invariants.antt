@@ -5,4 +5,4 @@ use Rattle.df_desk.specs.Parts.{bytes_of}
 use Rattle.df_desk.proofs.exec.join.Given as goal
 
 abbrev pub invariant-parts : goal.invariant-parts
-invariant-parts l = l.reply.items ++ flat_map bytes_of (drop l.part-index l.parts) ≡ l.fn.reply.items ++ (codes "*" ++ decimal (length l.parts) ++ crlf ++ flat_map bytes_of l.parts)
+invariant-parts l = l.reply ++ flat_map bytes_of (drop l.part-index l.parts) ≡ codes "*" ++ decimal (length l.parts) ++ crlf ++ flat_map bytes_of l.parts

@@ -1,6 +1,4 @@
-use Rattle.std.proofs.Common.{◌≡◌, ap, subst, ◌∙◌}
-use Rattle.df_model.specs.Meaning.{meaning}
-use Rattle.df_table.specs.Responses.{Gives}
+use Rattle.std.proofs.Common.{◌≡◌, ap, ◌∙◌}
 use Rattle.df_desk.specs.Parts.{marks_of}
 use Rattle.df_desk.specs.Replies.{told_on}
 use Rattle.df_desk.proofs.OutcomeLaws.{single_given}
@@ -12,7 +10,6 @@ returns-in-Ok c =
     let call = c.args.call.value in
     let marks = marks_of c.of.result.value.items in
     let after = c.run_command.new.table.keys in
-    let reply = c.run_command.new.out.items in
+    let reply = c.run_command.new.reply in
     let ran : c.new.result ≡ told_on call marks K = c.new.ensures ∙ ap (λ t. told_on call marks t.keys) c.of-before.ensures in
-    single_given call c.args.command marks K after c.new.result reply c.requires.call ran
-    (subst (λ o. Gives (meaning c.args.command K) after o reply) c.requires.empty c.in-Ok.ensures.ok)
+    single_given call c.args.command marks K after c.new.result reply c.requires ran c.in-Ok.ensures.ok

@@ -12,8 +12,8 @@ returns-in-Ok c =
     let place = sym c.replace.ensures.value ∙ c.in-Ran.is in
     let g = gives_told d.answered c.push.new.self d.stalls d.place c.replace.new.dest c.in-Ran.ran (ap under_at place) c.push.ensures c.replace.ensures.after in
     record {
-      went = subst (λ (s : DeskState). (x : Answers s.calling record { told = c.push.new.self; under = under_at c.replace.new.dest; stalls = d.stalls; due = due_at c.replace.new.dest }) × (c.extend_from_slice.new.self.items ≡ c.args.out.now.items ++ encoding_of x.reply)) c.self.view_is
-          (g.0, c.in-Ok.ensures.items ∙ ap (λ l. c.args.out.now.items ++ l) (c.as_slice.ensures.value ∙ subst (λ p. said_at p d.reply.items) place c.self.invariant) ∙ ap (λ r. c.args.out.now.items ++ encoding_of r) (sym g.1));
+      went = subst (λ (s : DeskState). (x : Answers s.calling record { told = c.push.new.self; under = under_at c.replace.new.dest; stalls = d.stalls; due = due_at c.replace.new.dest }) × (c.append_to.new.to.items ≡ c.args.out.now.items ++ encoding_of x.reply)) c.self.view_is
+          (g.0, c.in-Ok.ensures.ok ∙ ap (λ l. c.args.out.now.items ++ l) (subst (λ p. said_at p d.reply) place c.self.invariant) ∙ ap (λ r. c.args.out.now.items ++ encoding_of r) (sym g.1));
       ran = subst (λ (s : DeskState). c.push.new.self ++ ran_at c.replace.new.dest ≡ s.ran) c.self.view_is (ran_stays d.answered c.push.new.self d.place c.replace.new.dest c.in-Ran.ran (ap ran_at place) c.push.ensures c.replace.ensures.after);
     }
 
@@ -23,7 +23,7 @@ returns-in-Ran c =
     let place = sym c.replace.ensures.value ∙ c.in-Ran.is in
     let g = gives_told d.answered c.push.new.self d.stalls d.place c.replace.new.dest c.in-Ran.ran (ap under_at place) c.push.ensures c.replace.ensures.after in
     record {
-      went = subst (λ (s : DeskState). Answers s.calling record { told = c.push.new.self; under = under_at c.replace.new.dest; stalls = d.stalls; due = due_at c.replace.new.dest } × (c.extend_from_slice.new.self.items ≡ c.args.out.now.items)) c.self.view_is (g.0, c.in-Err.ensures.items);
+      went = subst (λ (s : DeskState). Answers s.calling record { told = c.push.new.self; under = under_at c.replace.new.dest; stalls = d.stalls; due = due_at c.replace.new.dest } × (c.append_to.new.to.items ≡ c.args.out.now.items)) c.self.view_is (g.0, c.in-Err.ensures.err);
       ran = subst (λ (s : DeskState). c.push.new.self ++ ran_at c.replace.new.dest ≡ s.ran) c.self.view_is (ran_stays d.answered c.push.new.self d.place c.replace.new.dest c.in-Ran.ran (ap ran_at place) c.push.ensures c.replace.ensures.after);
     }
 
