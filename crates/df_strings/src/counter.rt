@@ -8,12 +8,9 @@ ghost use Rattle.df_strings.specs.Strings.{MakesText};
 
 use crate::set::put;
 use df_model::{Bin, ErrorText, NoMemory};
-use df_text::push_i64;
 use df_values::{Change, Pieces};
+use itoa::Buffer;
 use std::alloc::Global;
-
-/// The digits of a number of 64 bits, and its sign.
-const DIGITS: usize = 20;
 
 /// INCRBY, on the number that stands there.
 pub fn incrby(
@@ -55,12 +52,12 @@ pub fn decrby(
     incrby(alloc, opposite, Some(number), reply)
 }
 
-/// Puts the decimal of a number, and answers the number.
+/// Puts the decimal of a number, and answers the number. The decimal takes no memory, since it stands in place.
 fn count(alloc: Global, n: i64, reply: &mut Pieces) -> Result<Change, NoMemory>
     ensures { IfOk result (λ change. MakesText (strings.summed n) reply.new change) }
 {
-    let mut digits = Vec::with_capacity(alloc, DIGITS)?;
-    push_i64(&mut digits, n)?;
     reply.put_int(n)?;
-    Ok(put(Bin::from_vec(digits)))
+    let mut buffer = Buffer::new();
+    let digits = Bin::from_slice(alloc, buffer.format(n).as_bytes())?;
+    Ok(put(digits))
 }
