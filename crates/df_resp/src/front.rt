@@ -38,7 +38,8 @@ pub fn head_at(bytes: &[u8]) -> Seen
 fn is_null(bytes: &[u8]) -> bool
     ensures { result ≡ begins_null bytes.now }
 {
-    bytes.len() > 1 && bytes[0] == b'*' && bytes[1] == b'-'
+    // Most counts fail the second byte's test, so it comes first.
+    bytes.len() > 1 && bytes[1] == b'-' && bytes[0] == b'*'
 }
 
 /// A word of at most so many bytes, by its length.

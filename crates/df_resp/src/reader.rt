@@ -11,15 +11,19 @@
 ghost use Rattle.std.specs.Prelude.{◌≡◌, ◌≢◌, ◌++◌, [], Some, None, IfOk, OnOk, OnErr};
 ghost use Rattle.df_model.specs.Framing.{Splits};
 
+use crate::held::Held;
 use crate::input::{self, Begun, Input, Step};
-use bytes::{Bytes, BytesMut};
+use bytes::Bytes;
 use df_model::{BadKind, NoMemory};
 use std::alloc::Global;
 use std::marker::Model;
 
+/// Words of the longest list whose room is kept between requests, so that an idle connection holds little.
+const MOST_KEPT: usize = 64;
+
 /// What a reader gives.
 pub enum Next {
-    /// The words of a request, as slices of the reader's buffer: no byte is copied for them.
+    /// The words of a request, as slices of what was read: no byte is copied for them.
     Words(Vec<Bytes>),
     /// Nothing more is whole. To call again before a piece is fed gives the same answer.
     NeedMore,
@@ -43,9 +47,9 @@ impl Model for Reader {
 
     ghost Value = { Stream };
 
-    ghost view = { λ r. record { rest = rest_of r.input.begun r.input.buffer.items; before = r.input.before; failed = r.failed } };
+    ghost view = { λ r. record { rest = rest_of r.input.begun r.input.held; before = r.input.before; failed = r.failed } };
 
-    ghost invariant = { λ r. IsSound r.input.begun × IsPlaced r.input.before r.input.place (rest_of r.input.begun r.input.buffer.items) r.input.buffer.items };
+    ghost invariant = { λ r. IsSound r.input.begun × IsPlaced r.input.before r.input.place (rest_of r.input.begun r.input.held) r.input.held };
 }
 
 impl Reader {
@@ -68,7 +72,7 @@ impl Reader {
                     missing: 0,
                     total: 0,
                 },
-                buffer: BytesMut::new(alloc),
+                held: Held::new(alloc),
                 before: 0,
                 place: 0,
             },
@@ -85,7 +89,7 @@ impl Reader {
         ensures err { OnErr result (self.new ≡ self.old) }
     {
         if self.failed.is_none() {
-            self.input.buffer.extend_from_slice(piece)?;
+            self.input.held.add(piece)?;
         }
         Ok(())
     }
@@ -112,6 +116,17 @@ impl Reader {
                     return Ok(Next::Bad { kind, at });
                 }
             }
+        }
+    }
+
+    /// Takes the list of a request's words back, for the words of the next one. A reader whose lists aren't
+    /// given back makes a new one for each request.
+    pub fn give_back(&mut self, mut words: Vec<Bytes>)
+        ensures { self.new ≡ self.old }
+    {
+        words.clear();
+        if self.input.begun.words.capacity() == 0 && words.capacity() <= MOST_KEPT {
+            self.input.begun.words = words;
         }
     }
 }

@@ -10,7 +10,7 @@ use Rattle.df_resp.proofs.NextLaws.{on_step, more_step, BadStep, bad_step}
 use Rattle.df_resp.proofs.reader.Reader.next.Goals as goal
 
 abbrev rest : Input → Bytes
-rest i = rest_of i.begun i.buffer.items
+rest i = rest_of i.begun i.held
 
 pub frames-preserved : goal.frames-preserved
 frames-preserved c = record {
@@ -25,7 +25,7 @@ pub returns-in-Whole-clause-ok : goal.returns-in-Whole-clause-ok
 returns-in-Whole-clause-ok c = λ _.
     let old : Bytes = rest c.frames.self-inside.input in
     let new : Bytes = rest c.take_next.new.input in
-    let step : Splits old (c.in-Whole.words.items ∷ []) new = subst (λ x. Steps x old new c.take_next.new.input.buffer.items) c.in-Whole.is c.in_ok-take_next.ensures.steps in
+    let step : Splits old (c.in-Whole.words.items ∷ []) new = subst (λ x. Steps x old new c.take_next.new.input.held) c.in-Whole.is c.in_ok-take_next.ensures.steps in
     (c.frames.invariant.good, splits_join c.args.self.now.rest old new [] (c.in-Whole.words.items ∷ []) c.frames.invariant.splits step)
 
 pub returns-in-Whole-clause-count : goal.returns-in-Whole-clause-count

@@ -6,11 +6,11 @@ use Rattle.df_resp.proofs.reader.Reader.next.Given as goal
 abbrev pub invariant-frames : goal.invariant-frames
 invariant-frames l = record {
   sound : IsSound l.self-inside.input.begun;
-  placed : IsPlaced l.self-inside.input.before l.self-inside.input.place (rest_of l.self-inside.input.begun l.self-inside.input.buffer.items) l.self-inside.input.buffer.items;
-  splits : Splits l.fn.self.rest [] (rest_of l.self-inside.input.begun l.self-inside.input.buffer.items);
-  counts : Counts l.fn.self.before l.fn.self.rest l.self-inside.input.before (rest_of l.self-inside.input.begun l.self-inside.input.buffer.items);
+  placed : IsPlaced l.self-inside.input.before l.self-inside.input.place (rest_of l.self-inside.input.begun l.self-inside.input.held) l.self-inside.input.held;
+  splits : Splits l.fn.self.rest [] (rest_of l.self-inside.input.begun l.self-inside.input.held);
+  counts : Counts l.fn.self.before l.fn.self.rest l.self-inside.input.before (rest_of l.self-inside.input.begun l.self-inside.input.held);
   good : l.self-inside.failed ≡ None;
 }
 
 abbrev pub decreases-frames : goal.decreases-frames
-decreases-frames l = length l.self-inside.input.buffer.items
+decreases-frames l = length l.self-inside.input.held
