@@ -94,12 +94,16 @@ impl Talk {
         ensures { Took result self.old.sent self.new.sent self.old.state self.new.state self.old.reader self.new.reader self.old.output.items self.new.output.items }
     {
         match self.reader.next() {
-            Ok(Next::Words(words)) => taken_by(take_words(
-                self.alloc,
-                &mut self.state,
-                words.as_slice(),
-                &mut self.output,
-            )),
+            Ok(Next::Words(words)) => {
+                let answer = take_words(
+                    self.alloc,
+                    &mut self.state,
+                    words.as_slice(),
+                    &mut self.output,
+                );
+                self.reader.give_back(words);
+                taken_by(answer)
+            }
             Ok(Next::NeedMore) => Taken::Dry,
             Ok(Next::Bad { kind, at }) => match encode_protocol_error(kind, &mut self.output) {
                 Ok(()) => Taken::Bad(kind, at),

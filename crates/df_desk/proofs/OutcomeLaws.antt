@@ -84,12 +84,12 @@ says_all (command ∷ commands) (Refused ∷ parts) K after g =
 -- ---- a call that ran
 
 -- as a call of its own
-pub single_given : (call : Call) (command : Command) (marks : List Bool) (K after : Keyspace) (ran : Told) (reply : Bytes) → call ≡ Single command → ran ≡ told_on call marks K → Gives (meaning command K) after [] reply →
+pub single_given : (call : Call) (command : Command) (marks : List Bool) (K after : Keyspace) (ran : Told) (reply : Bytes) → call ≡ Single command → ran ≡ told_on call marks K → Gives (meaning command K) after reply →
     HasGiven ran call K after × (reply ≡ encoding_of ran.reply)
 single_given call command marks K after ran reply is e g =
     let told : ran ≡ told_on (Single command) marks K = e ∙ ap (λ c. told_on c marks K) is in
     let allowed : Allowed (Single command) (true ∷ []) K (meaning command K).0 after = (after, kept command K after g.leaves, refl) in
-    (record { calls = ap (λ (t : Told). t.call) e; marks = true ∷ []; allowed = subst (λ (t : Told). Allowed t.call (true ∷ []) K t.reply after) (sym told) allowed }, g.adds ∙ ap (λ (t : Told). encoding_of t.reply) (sym told))
+    (record { calls = ap (λ (t : Told). t.call) e; marks = true ∷ []; allowed = subst (λ (t : Told). Allowed t.call (true ∷ []) K t.reply after) (sym told) allowed }, g.says ∙ ap (λ (t : Told). encoding_of t.reply) (sym told))
 
 pub exec_given : (call : Call) (commands : Spared Command) (parts : List Part) (K after : Keyspace) (ran : Told) → call ≡ Exec commands → ran ≡ told_on call (marks_of parts) K → GaveAll commands.items parts K after → HasGiven ran call K after
 exec_given call commands parts K after ran is e g =

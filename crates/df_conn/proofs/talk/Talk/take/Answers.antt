@@ -11,14 +11,15 @@ pub returns-in-Ok-Words : goal.returns-in-Ok-Words
 returns-in-Ok-Words c =
     let old = c.args.self.now in
     let stream = c.next.new.self in
-    let state = c.take_words.new.state in
-    let output = c.take_words.new.output in
+    let state = c.take_words-answer.new.state in
+    let output = c.take_words-answer.new.output in
     let words : Words = c.in-Ok-Words.words.items in
-    let is : IsAnswer c.take_words.result words old.state state old.output.items output.items =
-    subst (λ w. IsAnswer c.take_words.result w old.state state old.output.items output.items) c.as_slice.ensures.value c.take_words.ensures in
-    subst (λ t. Took t old.sent old.sent old.state state old.reader stream old.output.items output.items) (sym c.taken_by.ensures)
-    (took_words c.take_words.result words old.sent old.sent old.state state old.reader stream old.output.items output.items refl
-    (λ good. subst (λ x. Gives x old.reader stream) c.in-Ok-Words.field-0-is (c.in-Ok-Words.ensures.ok good)) c.next.ensures.count is)
+    let is : IsAnswer c.take_words-answer.result words old.state state old.output.items output.items =
+    subst (λ w. IsAnswer c.take_words-answer.result w old.state state old.output.items output.items) c.as_slice.ensures.value c.take_words-answer.ensures in
+    subst (λ r. Took c.taken_by.result old.sent old.sent old.state state old.reader r old.output.items output.items) (sym c.give_back.ensures)
+    (subst (λ t. Took t old.sent old.sent old.state state old.reader stream old.output.items output.items) (sym c.taken_by.ensures)
+    (took_words c.take_words-answer.result words old.sent old.sent old.state state old.reader stream old.output.items output.items refl
+    (λ good. subst (λ x. Gives x old.reader stream) c.in-Ok-Words.field-0-is (c.in-Ok-Words.ensures.ok good)) c.next.ensures.count is))
 
 pub returns-in-Ok-NeedMore : goal.returns-in-Ok-NeedMore
 returns-in-Ok-NeedMore c =
