@@ -5,10 +5,10 @@ ghost use Rattle.df_model.specs.Families.{family_of};
 ghost use Rattle.df_hashes.specs.Serves.{Serves};
 
 use df_colls::HashVal;
-use df_hashes::prepare;
+use df_hashes::prepare_into;
 use df_model::{Bin, Bins, NoMemory, OneOp, Pairs};
 use df_text::parse_i64;
-use df_values::{Change, StrVal, Value};
+use df_values::{Change, Pieces, StrVal, Value};
 use std::alloc::Global;
 
 fn bin(alloc: Global, text: &str) -> Result<Bin, NoMemory> {
@@ -67,18 +67,18 @@ fn command(alloc: Global, name: &str, words: &str) -> Result<OneOp, NoMemory>
 }
 
 /// What becomes of the key, and behind it the reply.
-fn answer(alloc: Global, op: OneOp, value: Option<&mut Value>) -> Result<Vec<u8>, NoMemory>
+fn answer(alloc: Global, mut op: OneOp, value: Option<&mut Value>) -> Result<Vec<u8>, NoMemory>
     requires { Serves (family_of op) }
 {
-    let prepared = prepare(alloc, op, value)?;
-    let change = match &prepared.change {
+    let mut reply = Pieces::new(alloc);
+    let change = match prepare_into(alloc, &mut op, value, &mut reply)? {
         Change::Keep => "keep ",
         Change::Put(_) => "put ",
         Change::Delete => "delete ",
         Change::Edit(_) => "edit ",
     };
     let mut text = Vec::from_slice(alloc, change.as_bytes())?;
-    prepared.reply.append_to(&mut text)?;
+    reply.append_to(&mut text)?;
     Ok(text)
 }
 

@@ -2,9 +2,9 @@
 //! clause. A list is written as a text, each byte an element, and a missing key as "-".
 
 use df_list::ListVal;
-use df_lists::prepare;
+use df_lists::prepare_into;
 use df_model::{Beside, Bin, Bins, ErrorText, Family, NoMemory, OneOp, Side};
-use df_values::{Change, Prepared, StrVal, Value};
+use df_values::{Change, Pieces, StrVal, Value};
 use std::alloc::Global;
 use std::process::Abort;
 
@@ -51,16 +51,24 @@ fn linsert(alloc: Global, beside: Beside, pivot: &str, element: &str) -> Result<
     Ok(OneOp::Linsert(beside, pivot, element))
 }
 
-fn prepared_on(alloc: Global, op: OneOp, held: &str) -> Result<Prepared, NoMemory> {
+fn prepared_on(
+    alloc: Global,
+    mut op: OneOp,
+    held: &str,
+    reply: &mut Pieces,
+) -> Result<Change, NoMemory> {
     match op.family() {
         Family::Lists => {}
-        _ => return Prepared::refuse(alloc, &ErrorText::Unknown),
+        _ => {
+            reply.put_error(&ErrorText::Unknown)?;
+            return Ok(Change::Keep);
+        }
     }
     if held == "-" {
-        return prepare(alloc, op, None);
+        return prepare_into(alloc, &mut op, None, reply);
     }
     let mut value = Value::List(list_of(alloc, held.as_bytes())?);
-    prepare(alloc, op, Some(&mut value))
+    prepare_into(alloc, &mut op, Some(&mut value), reply)
 }
 
 fn name_of(change: &Change) -> &[u8] {
@@ -74,10 +82,11 @@ fn name_of(change: &Change) -> &[u8] {
 
 /// The reply, and then what becomes of the key.
 fn told_of(alloc: Global, op: OneOp, held: &str) -> Result<Vec<u8>, NoMemory> {
-    let prepared = prepared_on(alloc, op, held)?;
+    let mut reply = Pieces::new(alloc);
+    let change = prepared_on(alloc, op, held, &mut reply)?;
     let mut told = Vec::new(alloc);
-    prepared.reply.append_to(&mut told)?;
-    told.extend_from_slice(name_of(&prepared.change))?;
+    reply.append_to(&mut told)?;
+    told.extend_from_slice(name_of(&change))?;
     Ok(told)
 }
 
@@ -194,9 +203,10 @@ fn removals(rt: HostRuntime) -> Result<(), NoMemory> {
 #[test]
 fn a_string_is_no_list(rt: HostRuntime) -> Result<(), NoMemory> {
     let mut value = Value::Str(StrVal::new());
-    let prepared = prepare(rt.alloc(), OneOp::Llen, Some(&mut value))?;
+    let mut reply = Pieces::new(rt.alloc());
+    let _keep = prepare_into(rt.alloc(), &mut OneOp::Llen, Some(&mut value), &mut reply)?;
     assert_eq!(rt;
-        prepared.reply.run(0),
+        reply.run(0),
         b"-WRONGTYPE Operation against a key holding the wrong kind of value\r\n".as_slice()
     );
     Ok(())

@@ -6,8 +6,8 @@ ghost use Rattle.df_sets.specs.Serves.{Serves};
 
 use df_colls::SetVal;
 use df_model::{Bin, Bins, NoMemory, OneOp};
-use df_sets::{Combine, combine, prepare};
-use df_values::{Change, StrVal, Value};
+use df_sets::{Combine, combine, prepare_into};
+use df_values::{Change, Pieces, StrVal, Value};
 use std::alloc::Global;
 
 #[derive(Clone, Copy)]
@@ -65,12 +65,13 @@ fn held(alloc: Global, text: &[u8]) -> Result<Option<Value>, NoMemory> {
 }
 
 /// What becomes of the key, and the reply.
-fn given(alloc: Global, op: OneOp, value: Option<&mut Value>) -> Result<Vec<u8>, NoMemory>
+fn given(alloc: Global, mut op: OneOp, value: Option<&mut Value>) -> Result<Vec<u8>, NoMemory>
     requires { Serves (family_of op) }
 {
-    let prepared = prepare(alloc, op, value)?;
-    let mut given = Vec::from_slice(alloc, name_of(&prepared.change))?;
-    prepared.reply.append_to(&mut given)?;
+    let mut reply = Pieces::new(alloc);
+    let change = prepare_into(alloc, &mut op, value, &mut reply)?;
+    let mut given = Vec::from_slice(alloc, name_of(&change))?;
+    reply.append_to(&mut given)?;
     Ok(given)
 }
 

@@ -1,16 +1,21 @@
 //! Examples of the Redis command pages: that a call with ample memory finds it is in no clause.
 
-use df_model::{Bin, Bins, Guard, ManyOp, NoMemory, OneOp, Pairs, WholeOp};
-use df_table::{Table, run_many, run_whole};
+ghost use Rattle.std.specs.Prelude.{IfOk};
+ghost use Rattle.df_model.specs.Reads.{IsLinked};
+
+use df_model::{Bin, Bins, Command, Guard, ManyOp, NoMemory, OneOp, Pairs, PlainOp, WholeOp};
+use df_table::Table;
+use df_values::Pieces;
 use std::alloc::Global;
+use std::process::Abort;
 
 fn bin(alloc: Global, text: &str) -> Result<Bin, NoMemory> {
     Bin::from_slice(alloc, text.as_bytes())
 }
 
-fn keys(alloc: Global, texts: &[&str]) -> Result<Bins, NoMemory> {
+fn keys(alloc: Global, texts: &str) -> Result<Bins, NoMemory> {
     let mut keys = Bins::new(alloc);
-    'texts: for text in texts {
+    'texts: for text in texts.split(' ') {
         let key = bin(alloc, text)?;
         keys.reserve(1)?;
         keys.push(key);
@@ -18,42 +23,90 @@ fn keys(alloc: Global, texts: &[&str]) -> Result<Bins, NoMemory> {
     Ok(keys)
 }
 
-fn pairs(alloc: Global, texts: &[(&str, &str)]) -> Result<Pairs, NoMemory> {
+/// Each text is a key, an equals sign and what the key is to hold.
+fn pairs(alloc: Global, texts: &str) -> Result<Pairs, NoMemory> {
     let mut pairs = Pairs::new(alloc);
-    'texts: for text in texts {
-        let pair = (bin(alloc, text.0)?, bin(alloc, text.1)?);
-        pairs.reserve(1)?;
-        pairs.push(pair);
+    'texts: for text in texts.split(' ') {
+        if let Some((key, word)) = text.split_once('=') {
+            let pair = (bin(alloc, key)?, bin(alloc, word)?);
+            pairs.reserve(1)?;
+            pairs.push(pair);
+        }
     }
     Ok(pairs)
 }
 
-#[test]
-fn what_mset_puts_mget_gets(rt: HostRuntime) -> Result<(), NoMemory> {
-    let alloc = rt.alloc();
+/// The command of this name. A word stands behind its key and an equals sign.
+fn command(alloc: Global, name: &str, words: &str) -> Result<Command, NoMemory>
+    ensures { IfOk result (λ command. IsLinked command) }
+{
+    let (key, word) = words.split_once('=').unwrap_or((words, ""));
+    Ok(match name {
+        "SET" => {
+            let key = bin(alloc, key)?;
+            Command::One(key, OneOp::Set(bin(alloc, word)?, Guard::Always))
+        }
+        "APPEND" => {
+            let key = bin(alloc, key)?;
+            Command::One(key, OneOp::Append(bin(alloc, word)?))
+        }
+        "GET" => Command::One(bin(alloc, key)?, OneOp::Get),
+        "MSET" => Command::Many(ManyOp::Mset(pairs(alloc, words)?)),
+        "MGET" => Command::Many(ManyOp::Mget(keys(alloc, words)?)),
+        "KEYS" => Command::Whole(WholeOp::Keys(bin(alloc, key)?)),
+        _ => Command::Plain(PlainOp::Ping(None)),
+    })
+}
+
+/// Each case is a command, its words and its reply. All run on one table, and write one reply after another into
+/// the same room.
+fn expect(rt: &impl Abort, alloc: Global, cases: &[(&str, &str, &str)]) -> Result<(), NoMemory> {
     let mut table = Table::new(alloc);
-    let mut out = Vec::new(alloc);
-    let put = ManyOp::Mset(pairs(alloc, &[("x", "1"), ("y", "2")])?);
-    run_many(alloc, &mut table, put, &mut out)?;
-    let got = ManyOp::Mget(keys(alloc, &["x", "y", "z"])?);
-    run_many(alloc, &mut table, got, &mut out)?;
-    let wanted = b"+OK\r\n*3\r\n$1\r\n1\r\n$1\r\n2\r\n$-1\r\n";
-    assert_eq!(rt; out.as_slice(), wanted.as_slice());
+    let mut reply = Pieces::new(alloc);
+    'cases: for case in cases {
+        let mut command = command(alloc, case.0, case.1)?;
+        table.run_command(alloc, &mut command, &mut reply)?;
+        assert_eq!(rt; reply.len(), case.2.len(), "{} {}", case.0, case.1);
+        assert_eq!(rt; reply.run(0), case.2.as_bytes(), "{} {}", case.0, case.1);
+    }
     Ok(())
 }
 
 #[test]
+fn what_mset_puts_mget_gets(rt: HostRuntime) -> Result<(), NoMemory> {
+    let cases = [
+        ("MSET", "x=1 y=2", "+OK\r\n"),
+        ("MGET", "x y z", "*3\r\n$1\r\n1\r\n$1\r\n2\r\n$-1\r\n"),
+    ];
+    expect(&rt, rt.alloc(), &cases)
+}
+
+#[test]
 fn a_key_that_was_set_is_appended_to_and_listed(rt: HostRuntime) -> Result<(), NoMemory> {
-    let alloc = rt.alloc();
-    let mut table = Table::new(alloc);
-    let mut out = Vec::new(alloc);
-    let hello = OneOp::Set(bin(alloc, "Hello")?, Guard::Always);
-    table.run_one(alloc, bin(alloc, "mykey")?, hello, &mut out)?;
-    let world = OneOp::Append(bin(alloc, " World")?);
-    table.run_one(alloc, bin(alloc, "mykey")?, world, &mut out)?;
-    let listed = WholeOp::Keys(bin(alloc, "my*")?);
-    run_whole(alloc, &mut table, listed, &mut out)?;
-    let wanted = b"+OK\r\n:11\r\n*1\r\n$5\r\nmykey\r\n";
-    assert_eq!(rt; out.as_slice(), wanted.as_slice());
-    Ok(())
+    let cases = [
+        ("SET", "mykey=Hello", "+OK\r\n"),
+        ("APPEND", "mykey= World", ":11\r\n"),
+        ("KEYS", "my*", "*1\r\n$5\r\nmykey\r\n"),
+    ];
+    expect(&rt, rt.alloc(), &cases)
+}
+
+#[test]
+fn a_string_in_place_and_a_longer_one_are_got_whole(rt: HostRuntime) -> Result<(), NoMemory> {
+    let cases = [
+        ("SET", "a=abcdefghijklmnopqrstuvwxyz0123", "+OK\r\n"),
+        ("SET", "b=abcdefghijklmnopqrstuvwxyz01234", "+OK\r\n"),
+        ("GET", "a", "$30\r\nabcdefghijklmnopqrstuvwxyz0123\r\n"),
+        ("GET", "b", "$31\r\nabcdefghijklmnopqrstuvwxyz01234\r\n"),
+        // a reply that doesn't stand in place
+        ("APPEND", "a=abcdefghijklmnopqrstuvwxyz", ":56\r\n"),
+        (
+            "GET",
+            "a",
+            "$56\r\nabcdefghijklmnopqrstuvwxyz0123abcdefghijklmnopqrstuvwxyz\r\n",
+        ),
+        ("PING", "", "+PONG\r\n"),
+        ("GET", "c", "$-1\r\n"),
+    ];
+    expect(&rt, rt.alloc(), &cases)
 }
