@@ -3,6 +3,7 @@
 
 mod gone;
 pub mod laws;
+mod quiet;
 mod rounds;
 mod seat;
 mod table_sessions;

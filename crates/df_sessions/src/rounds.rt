@@ -6,14 +6,12 @@ ghost use Rattle.df_sessions.specs.AllSessions.{EndsFor, Promises};
 ghost use Rattle.df_sessions.specs.Entries.{IsDone, Since};
 
 use crate::gone::Gone;
+use crate::quiet::Quiet;
 use crate::table_sessions::{Met, TableSessions};
 use df_outside::{Door, Link};
 use df_table::Table;
 use std::alloc::Global;
 use std::sync::Wait;
-
-/// Milliseconds that a round without work waits at the most.
-const REST: u32 = 100;
 
 /// Links that one round takes in at the most.
 const WELCOMES: u32 = 64;
@@ -56,13 +54,15 @@ pub fn serve<R: Wait, D: Door>(
 {
     let mut sessions = TableSessions::new(alloc, table);
     let mut entry = Entry::Open;
+    let mut quiet = Quiet::new(alloc);
     'rounds: for _ in rt.forever() {
         let before = sessions.count();
         if takes_in(sessions.is_asked(), entry) {
             entry = welcome(door, &mut sessions);
         }
         let came = sessions.count() != before;
-        let busy = sessions.round(buffer);
+        quiet.begin(sessions.len());
+        let busy = sessions.round(buffer, &mut quiet);
         let asked = sessions.is_asked();
         if sessions.len() == 0 && is_done(asked, entry) {
             let count = sessions.count();
@@ -73,7 +73,7 @@ pub fn serve<R: Wait, D: Door>(
                 entry,
             };
         }
-        door.rest(if busy || came { 0 } else { REST });
+        door.rest(quiet.pause(busy || came));
     }
     unreachable!()
 }

@@ -5,6 +5,7 @@ ghost use Rattle.df_sessions.specs.AllSessions.{EndsFor, LeavesSeats, Promises, 
 ghost use Rattle.df_sessions.specs.Entries.{Meets};
 
 use crate::gone::Gone;
+use crate::quiet::Quiet;
 use crate::seat::Seat;
 use df_desk::Desk;
 use df_model::{Turn, Why};
@@ -156,25 +157,46 @@ impl<L: Link> TableSessions<L> {
 
     /// Gives the session at this place turns until it has to wait, has ended or had its share. Says whether it had its
     /// share.
-    pub fn visit(&mut self, at: usize, buffer: &mut [u8]) -> bool
+    pub fn visit(&mut self, at: usize, buffer: &mut [u8], quiet: &mut Quiet) -> bool
         requires at { at < length self.old.seats }
         requires room { 0 < length buffer.old }
         ensures start { self.new.start ≡ self.old.start }
         ensures count { self.new.count ≡ self.old.count }
         ensures left { at ≤ length self.new.seats }
     {
-        'turns: for _ in 0..SHARE {
+        'turns: for turn in 0..SHARE {
             match self.turn(at, buffer) {
                 Turn::Moved => {}
-                Turn::NotYet => return false,
-                Turn::Ended(_) => return false,
+                Turn::NotYet => {
+                    quiet.note(at, turn > 0);
+                    return false;
+                }
+                Turn::Ended(_) => {
+                    quiet.note(at, true);
+                    return false;
+                }
             }
         }
+        quiet.note(at, true);
         true
     }
 
-    /// Gives each session its turns. Says whether one had its share, and so may go on at once.
-    pub fn round(&mut self, buffer: &mut [u8]) -> bool
+    /// Visits the session at this place, unless it is passed over in this round. Says whether it had its share.
+    fn call_on(&mut self, at: usize, buffer: &mut [u8], quiet: &mut Quiet) -> bool
+        requires at { at < length self.old.seats }
+        requires room { 0 < length buffer.old }
+        ensures start { self.new.start ≡ self.old.start }
+        ensures count { self.new.count ≡ self.old.count }
+        ensures left { at ≤ length self.new.seats }
+    {
+        if quiet.passes_over(at) {
+            return false;
+        }
+        self.visit(at, buffer, quiet)
+    }
+
+    /// Gives each session that isn't passed over its turns. Says whether one had its share, and so may go on at once.
+    pub fn round(&mut self, buffer: &mut [u8], quiet: &mut Quiet) -> bool
         requires { 0 < length buffer.old }
         ensures start { self.new.start ≡ self.old.start }
         ensures count { self.new.count ≡ self.old.count }
@@ -183,7 +205,7 @@ impl<L: Link> TableSessions<L> {
         let mut at = self.seats.len();
         'seats: while at > 0 {
             at -= 1;
-            if self.visit(at, buffer) {
+            if self.call_on(at, buffer, quiet) {
                 busy = true;
             }
         }
