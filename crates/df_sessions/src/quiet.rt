@@ -15,6 +15,10 @@ const EVERY: u8 = 16;
 /// Milliseconds that a round without work waits at the most.
 const REST: u32 = 100;
 
+/// Milliseconds that a round waits at the most that worked and passed somebody over: the next request of the others ends
+/// the wait, and where none comes, everybody is visited.
+const GLANCE: u32 = 1;
+
 /// The rounds without work of each place, and what this round came to so far.
 #[derive(Drop)]
 pub struct Quiet {
@@ -76,8 +80,14 @@ impl Quiet {
         }
     }
 
-    /// Milliseconds to rest at the most after this round: none where there is more to do, or somebody was passed over.
+    /// Milliseconds to rest at the most after this round: none where there is more to do.
     pub fn pause(&self, more: bool) -> u32 {
-        if more || self.passed { 0 } else { REST }
+        if !more && !self.passed {
+            REST
+        } else if !more && self.worked {
+            GLANCE
+        } else {
+            0
+        }
     }
 }
