@@ -1,0 +1,9 @@
+pub mod ListLaws
+pub mod EachLaws
+pub mod RowLaws
+pub mod StringRows
+pub mod ListRows
+pub mod HashRows
+pub mod SetRows
+pub mod KeyRows
+pub mod CommandLaws
