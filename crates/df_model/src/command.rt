@@ -61,7 +61,7 @@ pub enum PlainOp {
 }
 
 /// Commands of one key, which stands beside them in `Command::One`.
-#[derive(Debug, Drop)]
+#[derive(Debug)]
 pub enum OneOp {
     KindOf,
     Get,
@@ -109,6 +109,60 @@ pub enum OneOp {
     Sismember(Bin),
     Smismember(Bins),
     Smembers,
+}
+
+/// A call of its own, so that whoever drops a command has one way on and not one a variant.
+impl Drop for OneOp {
+    fn drop(self) {
+        match self {
+            OneOp::KindOf
+            | OneOp::Get
+            | OneOp::Set(_, _)
+            | OneOp::Setnx(_)
+            | OneOp::Getset(_)
+            | OneOp::Getdel
+            | OneOp::Append(_)
+            | OneOp::Strlen
+            | OneOp::Getrange(_, _)
+            | OneOp::Setrange(_, _)
+            | OneOp::Incr
+            | OneOp::Decr
+            | OneOp::Incrby(_)
+            | OneOp::Decrby(_)
+            | OneOp::Lpush(_)
+            | OneOp::Rpush(_)
+            | OneOp::Lpushx(_)
+            | OneOp::Rpushx(_)
+            | OneOp::Lpop(_)
+            | OneOp::Rpop(_)
+            | OneOp::Llen
+            | OneOp::Lrange(_, _)
+            | OneOp::Lindex(_)
+            | OneOp::Lset(_, _)
+            | OneOp::Linsert(_, _, _)
+            | OneOp::Lrem(_, _)
+            | OneOp::Ltrim(_, _)
+            | OneOp::Hset(_)
+            | OneOp::Hmset(_)
+            | OneOp::Hsetnx(_, _)
+            | OneOp::Hget(_)
+            | OneOp::Hmget(_)
+            | OneOp::Hdel(_)
+            | OneOp::Hlen
+            | OneOp::Hexists(_)
+            | OneOp::Hstrlen(_)
+            | OneOp::Hkeys
+            | OneOp::Hvals
+            | OneOp::Hgetall
+            | OneOp::Hincrby(_, _)
+            | OneOp::Sadd(_)
+            | OneOp::Srem(_)
+            | OneOp::Scard
+            | OneOp::Sismember(_)
+            | OneOp::Smismember(_)
+            | OneOp::Smembers => {}
+        }
+    }
 }
 
 impl OneOp {
@@ -201,7 +255,7 @@ pub enum WholeOp {
 }
 
 /// A command, once its words were read.
-#[derive(Debug, Drop)]
+#[derive(Debug)]
 pub enum Command {
     Plain(PlainOp),
     One(Bin, OneOp),
@@ -211,12 +265,34 @@ pub enum Command {
     Wrong(ErrorText),
 }
 
+/// As of `OneOp`.
+impl Drop for Command {
+    fn drop(self) {
+        match self {
+            Command::Plain(_)
+            | Command::One(_, _)
+            | Command::Many(_)
+            | Command::Whole(_)
+            | Command::Wrong(_) => {}
+        }
+    }
+}
+
 /// Commands in their order.
 pub type Commands = Reserved<Command>;
 
 /// What is run as one: a command, or the commands of an EXEC.
-#[derive(Debug, Drop)]
+#[derive(Debug)]
 pub enum Call {
     Single(Command),
     Exec(Commands),
+}
+
+/// As of `OneOp`.
+impl Drop for Call {
+    fn drop(self) {
+        match self {
+            Call::Single(_) | Call::Exec(_) => {}
+        }
+    }
 }

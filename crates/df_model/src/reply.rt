@@ -3,7 +3,7 @@
 use crate::{Bin, Reserved};
 
 /// The texts of error replies. Each stands in specs/Replies.
-#[derive(Debug, Drop)]
+#[derive(Debug)]
 pub enum ErrorText {
     WrongKind,
     NotInteger,
@@ -27,6 +27,35 @@ pub enum ErrorText {
     SaveFailed,
     Memory,
     TooMany,
+}
+
+/// A call of its own, so that whoever drops an error has one way on and not one a variant.
+impl Drop for ErrorText {
+    fn drop(self) {
+        match self {
+            ErrorText::WrongKind
+            | ErrorText::NotInteger
+            | ErrorText::Overflow
+            | ErrorText::HashNotInteger
+            | ErrorText::NoSuchKey
+            | ErrorText::IndexRange
+            | ErrorText::OffsetRange
+            | ErrorText::Syntax
+            | ErrorText::Arity(_)
+            | ErrorText::Unknown
+            | ErrorText::Nested
+            | ErrorText::ExecAlone
+            | ErrorText::DiscardAlone
+            | ErrorText::Aborted
+            | ErrorText::NotInside
+            | ErrorText::TooQueued
+            | ErrorText::TooLong
+            | ErrorText::DbIndex
+            | ErrorText::SaveFailed
+            | ErrorText::Memory
+            | ErrorText::TooMany => {}
+        }
+    }
 }
 
 /// A reply.

@@ -92,6 +92,16 @@ impl Held {
         }
     }
 
+    /// Lets its memory go, where there are no bytes.
+    pub fn shrink(&mut self)
+        ensures { self.new ≡ self.old }
+    {
+        if self.len() == 0 {
+            let alloc = *self.buffer.allocator();
+            *self = Held::new(alloc);
+        }
+    }
+
     /// Takes the first bytes up to `used`, and gives of them the word of `n` bytes that ends two bytes
     /// before.
     pub fn cut(&mut self, n: usize, used: usize) -> Result<Bytes, NoMemory>

@@ -129,4 +129,14 @@ impl Reader {
             self.input.begun.words = words;
         }
     }
+    /// Lets memory go in which nothing is kept. A reader that waits for long had better be told so, since it keeps a
+    /// block of some 16 KiB for the next piece.
+    pub fn shrink(&mut self)
+        ensures { self.new ≡ self.old }
+    {
+        self.input.held.shrink();
+        if self.input.begun.words.is_empty() {
+            self.input.begun.words = Vec::new(self.alloc);
+        }
+    }
 }
