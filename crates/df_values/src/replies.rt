@@ -1,4 +1,7 @@
 //! Replies, each written straight to where it stays.
+//!
+//! The two kinds that most commands answer with are compiled into their callers, which saves a tenth of a GET's
+//! instructions (docs/PERFORMANCE.md).
 
 ghost use Rattle.std.specs.Prelude.{◌≡◌, ◌++◌, codes, decimal, pos, length, ◌<◌, OnOk};
 ghost use Rattle.std.specs.Bool.{OnTrue, OnFalse};
@@ -58,6 +61,7 @@ impl Pieces {
     }
 
     /// Adds bytes of whatever kind.
+    #[inline(always)]
     pub fn add_bulk(&mut self, bytes: &[u8]) -> Result<(), NoMemory>
         ensures { OnOk result (self.new ≡ self.old ++ encoding_of (Bulk bytes.now)) }
     {
@@ -97,6 +101,7 @@ impl Pieces {
         self.add_line(b"*", buffer.format(n).as_bytes())
     }
 
+    #[inline(always)]
     fn add_line(&mut self, mark: &[u8], text: &[u8]) -> Result<(), NoMemory>
         requires { length mark.now ≡ 1 }
         ensures { OnOk result (self.new ≡ self.old ++ (mark.now ++ text.now ++ crlf)) }
@@ -135,6 +140,7 @@ fn add_in_place(short: &mut Short, bytes: &[u8]) -> bool
 // A reply in place of what stood there.
 impl Pieces {
     /// One line of text, as a status. Where memory runs out, here and in all that follow, nothing is said of what stands.
+    #[inline(always)]
     pub fn put_simple(&mut self, text: &[u8]) -> Result<(), NoMemory>
         ensures { OnOk result (self.new ≡ encoding_of (Simple text.now)) }
     {
@@ -184,6 +190,7 @@ impl Pieces {
     }
 
     /// A byte string with its length in front.
+    #[inline(always)]
     pub fn put_bulk(&mut self, bytes: &[u8]) -> Result<(), NoMemory>
         ensures { OnOk result (self.new ≡ encoding_of (Bulk bytes.now)) }
     {
