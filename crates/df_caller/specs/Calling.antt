@@ -1,6 +1,5 @@
 -- What is known of a caller, and what its calls do to that.
 use Rattle.std.specs.Prelude.{◌≡◌, ℕ, ◌+◌, ◌-◌, ◌^◌, ◌≤◌, min, Bool, false, List, [], ◌∷◌, ◌++◌, Option, Some, None}
-use Rattle.df_model.specs.Values.{Bytes}
 use Rattle.df_model.specs.Replies.{encoding_of}
 use Rattle.df_model.specs.declared.command.Call.{Call}
 use Rattle.df_model.specs.declared.reply.Reply.{Reply}
@@ -47,9 +46,9 @@ pub record Waits (old new : Calling) : Type 0 where
   pub rose : Rose old.stalls new.stalls
   pub early : old.due ≡ false
 
-abbrev pub Steps : Went → Calling → Calling → Bytes → Bytes → Type 0
-Steps went.Pending old new before now = Waits old new × (now ≡ before)
-Steps went.Finished old new before now = (a : Answers old new) × (now ≡ before ++ encoding_of a.reply)
-Steps went.Unsaid old new before now = Answers old new × (now ≡ before)
-Steps went.NoMemory old new before now = GivesUp old new × (now ≡ before)
-Steps went.Spent old new before now = GivesUp old new × (now ≡ before)
+abbrev pub Steps : Went → Calling → Calling → Type 0
+Steps went.Pending old new = Waits old new
+Steps (went.Finished slip) old new = (a : Answers old new) × (slip.value.reply ≡ encoding_of a.reply)
+Steps (went.Unsaid slip) old new = Answers old new
+Steps (went.NoMemory slip) old new = GivesUp old new
+Steps (went.Spent slip) old new = GivesUp old new

@@ -1,25 +1,25 @@
 //! One call at a time.
 
-ghost use Rattle.std.specs.Prelude.{◌≡◌, None, true, is_some, OnOk, IfErr, List};
+ghost use Rattle.std.specs.Prelude.{◌≡◌, None, true, is_some, List};
 ghost use Rattle.df_model.specs.Calls.{IsCall};
 ghost use Rattle.df_caller.specs.Calling.{Calling, HasBegun, Steps};
 ghost use Rattle.df_caller.specs.Told.{Told};
 
-use df_model::Call;
+use crate::slip::Slip;
 
-/// What a step of a call came to. After every answer but `Pending` no call is under way.
-#[derive(Clone, Copy, Debug, PartialEq, Eq)]
+/// What a step of a call came to. After every answer but `Pending` no call is under way, and the slip comes back.
+#[derive(Drop)]
 pub enum Went {
     /// It goes on.
     Pending,
-    /// It ran, and its reply's bytes were added.
-    Finished,
-    /// It ran, and there was no memory to add its reply, of which no byte was added.
-    Unsaid,
+    /// It ran, and its reply lies in the slip.
+    Finished(Box<Slip>),
+    /// It ran, and there was no memory for its reply.
+    Unsaid(Box<Slip>),
     /// It found no memory and never ran.
-    NoMemory,
+    NoMemory(Box<Slip>),
     /// A number was needed and no draw was left. It never ran.
-    Spent,
+    Spent(Box<Slip>),
 }
 
 /// What runs the calls of one connection, one after the other. It may go from thread to thread.
@@ -31,17 +31,16 @@ pub trait Caller: Drop + Send {
     /// does changes it.
     ghost ran: { Self → List Told };
 
-    /// Begins a call. For want of memory it is handed back, and nothing has changed.
-    fn begin(&mut self, call: Call) -> Result<(), Call>
+    /// Begins the call of the slip. Takes no memory: where there is none for the call, a step says so.
+    fn begin(&mut self, slip: Box<Slip>)
         requires idle { (calling self.old).under ≡ None }
-        requires is_call { IsCall call }
-        ensures ok { OnOk result (HasBegun (calling self.old) (calling self.new) call) }
-        ensures err { IfErr result (λ back. (back ≡ call) × (calling self.new ≡ calling self.old)) }
+        requires is_call { IsCall slip.value.call }
+        ensures begun { HasBegun (calling self.old) (calling self.new) slip.value.call }
         ensures ran { ran self.new ≡ ran self.old };
 
-    /// Goes on with the call under way, and adds the bytes of its reply behind `out` once it ran.
-    fn step(&mut self, out: &mut Vec<u8>) -> Went
+    /// Goes on with the call under way. The slip that comes back may hold anything for its call.
+    fn step(&mut self) -> Went
         requires { is_some (calling self.old).under ≡ true }
-        ensures went { Steps result (calling self.old) (calling self.new) out.old.items out.new.items }
+        ensures went { Steps result (calling self.old) (calling self.new) }
         ensures ran { ran self.new ≡ ran self.old };
 }

@@ -6,5 +6,7 @@
 
 mod caller;
 pub mod laws;
+mod slip;
 
 pub use caller::{Caller, Went};
+pub use slip::Slip;

@@ -2,6 +2,7 @@
 use Rattle.std.proofs.Common.{◌≡◌, ℕ, List, [], ◌∷◌, ◌++◌, refl, sym, subst}
 use Rattle.std.specs.Prelude.{None}
 use Rattle.std.specs.List.{flat_map, filter_map, AllByRecursion}
+use Rattle.std.specs.Global.{Box}
 use Rattle.df_model.specs.Values.{Bytes}
 use Rattle.df_model.specs.Words.{Words}
 use Rattle.df_model.specs.Outcomes.{ok}
@@ -17,6 +18,7 @@ use Rattle.df_model.proofs.CallLaws.{calls_of_sessions}
 use Rattle.df_model.proofs.FramingLaws.{splits_join}
 use Rattle.df_resp.specs.Stream.{Stream}
 use Rattle.df_caller.specs.Told.{Told, told_item, told_items}
+use Rattle.df_caller.specs.declared.slip.Slip.{Slip}
 use Rattle.df_conn.specs.Walked.{Walked, Asked}
 use Rattle.df_conn.specs.Talks.{Awaits, Took}
 use Rattle.df_conn.specs.Turns.{Sight, At, Going}
@@ -47,12 +49,12 @@ asked_is_call told bytes said call after rest a =
     let hold : AllByRecursion IsRequest requests = subst (AllByRecursion IsRequest) (sym splits.requests_are) (requests_of splits.frames splits.each) in
     last_is_call (told_items told) item (calls_of_sessions requests ends.NoMemory (told_items told ++ item ∷ []) (flat_map encoding_of (s.replies ++ ok ∷ []) ++ farewell ends.NoMemory) hold output)
 
-pub took_is_call : (s : Sight) (call : Call) (state : State) (stream : Stream) (output : Bytes) (sent : ℕ) → Going s → s.stage ≡ stages.Open → Took (taken.Calls call) s.sent sent s.state state s.stream stream s.output output → IsCall call
-took_is_call s call state stream output sent g eq t =
+pub took_is_call : (s : Sight) (slip : Box Slip) (state : State) (stream : Stream) (output : Bytes) (sent : ℕ) → Going s → s.stage ≡ stages.Open → Took (taken.Calls slip) s.sent sent s.state state s.stream stream s.output output → IsCall slip.value.call
+took_is_call s slip state stream output sent g eq t =
     let f = g.flows in
     let at : At stages.Open s f.bytes f.said f.wrote = at_stage s stages.Open f.bytes f.said f.wrote eq g.at in
-    let awaits : Awaits s.calling.told f.bytes (f.said ++ t.added) call state stream = t.stands s.calling.told f.bytes f.said at.1 in
-    asked_is_call s.calling.told f.bytes (f.said ++ t.added) call state stream.rest awaits.asked
+    let awaits : Awaits s.calling.told f.bytes (f.said ++ t.added) slip.value.call state stream = t.stands s.calling.told f.bytes f.said at.1 in
+    asked_is_call s.calling.told f.bytes (f.said ++ t.added) slip.value.call state stream.rest awaits.asked
 
 -- no call is under way
 pub open_idle : (s : Sight) → Going s → s.stage ≡ stages.Open → s.calling.under ≡ None

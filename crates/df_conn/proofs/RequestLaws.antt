@@ -1,5 +1,6 @@
 -- What a request makes of a connection.
 use Rattle.std.proofs.Common.{◌≡◌, inl, inr, ℕ, Bool, [], ◌∷◌, ◌++◌, length, length-append, arith, refl, sym, ap, subst, ◌∙◌, append-nil}
+use Rattle.std.specs.Global.{Box}
 use Rattle.df_model.specs.Values.{Bytes}
 use Rattle.df_model.specs.Words.{Words}
 use Rattle.df_model.specs.Replies.{encoding_of}
@@ -13,6 +14,7 @@ use Rattle.df_model.specs.declared.reply.ErrorText.TheVariants as errors
 use Rattle.df_model.specs.declared.reply.Reply.TheVariants.{Error}
 use Rattle.df_resp.specs.Stream.{Stream}
 use Rattle.df_caller.specs.Calling.{Calling, HasBegun}
+use Rattle.df_caller.specs.declared.slip.Slip.{Slip}
 use Rattle.df_conn.specs.Walked.{Walked, Asked}
 use Rattle.df_conn.specs.Talks.{Stands, Awaits, IsDry, Stuck, Took}
 use Rattle.df_conn.specs.Turns.{Sight, At, Going, IsGoing, Moves, Turned, Rests, rank}
@@ -38,54 +40,20 @@ took_reply stopping s state stream output sent g eq t =
     )
 
 -- it is a call, which has begun
-pub took_call : (stopping : Bool) (s : Sight) (call : Call) (calling : Calling) (state : State) (stream : Stream) (output : Bytes) (sent : ℕ) → Going s → s.stage ≡ stages.Open → Took (taken.Calls call) s.sent sent s.state state s.stream stream s.output output
-    → HasBegun s.calling calling call → Turned turns.Moved stopping s (record s { stage = stages.Calling; calling = calling; state = state; stream = stream; output = output; sent = sent })
-took_call stopping s call calling state stream output sent g eq t b =
+pub took_call : (stopping : Bool) (s : Sight) (slip : Box Slip) (calling : Calling) (state : State) (stream : Stream) (output : Bytes) (sent : ℕ) → Going s → s.stage ≡ stages.Open → Took (taken.Calls slip) s.sent sent s.state state s.stream stream s.output output
+    → HasBegun s.calling calling slip.value.call → Turned turns.Moved stopping s (record s { stage = stages.Calling; calling = calling; state = state; stream = stream; output = output; sent = sent })
+took_call stopping s slip calling state stream output sent g eq t b =
     let f = g.flows in
     let at : At stages.Open s f.bytes f.said f.wrote = at_stage s stages.Open f.bytes f.said f.wrote eq g.at in
     let one : (words : Words) × Splits s.stream.rest (words ∷ []) stream.rest = t.takes at.1.good in
-    let awaits : Awaits s.calling.told f.bytes (f.said ++ t.added) call state stream = t.stands s.calling.told f.bytes f.said at.1 in (
+    let awaits : Awaits s.calling.told f.bytes (f.said ++ t.added) slip.value.call state stream = t.stands s.calling.told f.bytes f.said at.1 in (
       record {
         flows = flows_more s.first s.flow s.output output t.added s.sent sent f t.sent_is t.output;
-        at = (call, b.under, subst (λ told. Awaits told f.bytes (f.said ++ t.added) call state stream) (sym b.told) awaits);
+        at = (slip.value.call, b.under, subst (λ told. Awaits told f.bytes (f.said ++ t.added) slip.value.call state stream) (sym b.told) awaits);
       },
       tt,
       Moves.took one.0 one.1 refl,
     )
-
--- it is a call, for which there was no memory
-pub took_no_call : (stopping : Bool) (s : Sight) (call : Call) (calling : Calling) (state : State) (stream : Stream) (output output' : Bytes) (sent : ℕ) → Going s → s.stage ≡ stages.Open → Took (taken.Calls call) s.sent sent s.state state s.stream stream s.output output
-    → calling ≡ s.calling → output' ≡ output ++ encoding_of (Error errors.Memory) → Turned turns.Moved stopping s (record s { calling = calling; state = state; stream = stream; output = output'; sent = sent })
-took_no_call stopping s call calling state stream output output' sent g eq t same out =
-    let f = g.flows in
-    let at : At stages.Open s f.bytes f.said f.wrote = at_stage s stages.Open f.bytes f.said f.wrote eq g.at in
-    let one : (words : Words) × Splits s.stream.rest (words ∷ []) stream.rest = t.takes at.1.good in
-    let awaits : Awaits s.calling.told f.bytes (f.said ++ t.added) call state stream = t.stands s.calling.told f.bytes f.said at.1 in
-    let memory : Bytes = encoding_of (Error errors.Memory) in
-    let stands : Stands s.calling.told f.bytes ((f.said ++ t.added) ++ memory) state stream =
-    record { good = awaits.good; counted = awaits.counted; walked = asked_not_run s.calling.told f.bytes (f.said ++ t.added) call state stream.rest awaits.asked } in
-    let next : At stages.Open (record s { calling = calling; state = state; stream = stream; output = output'; sent = sent }) f.bytes ((f.said ++ t.added) ++ memory) f.wrote =
-    (ap (λ c. c.under) same ∙ at.0, subst (λ c. Stands c.told f.bytes ((f.said ++ t.added) ++ memory) state stream) (sym same) stands) in (
-      record {
-        flows = flows_more s.first s.flow output output' memory sent sent (flows_more s.first s.flow s.output output t.added s.sent sent f t.sent_is t.output) refl out;
-        at = subst (λ x. At x (record s { calling = calling; state = state; stream = stream; output = output'; sent = sent }) f.bytes ((f.said ++ t.added) ++ memory) f.wrote) (sym eq) next;
-      },
-      subst IsGoing (sym eq) tt,
-      Moves.took one.0 one.1 refl,
-    )
-
--- and none for saying so
-pub took_mute : (stopping : Bool) (s : Sight) (call : Call) (calling : Calling) (state : State) (stream : Stream) (output output' : Bytes) (sent : ℕ) → Going s → s.stage ≡ stages.Open → Took (taken.Calls call) s.sent sent s.state state s.stream stream s.output output
-    → calling ≡ s.calling → output' ≡ output → Turned (turns.Ended ends.NoMemory) stopping s (record s { stage = stages.Over ends.NoMemory; calling = calling; state = state; stream = stream; output = output'; sent = sent })
-took_mute stopping s call calling state stream output output' sent g eq t same out =
-    let f = g.flows in
-    let at : At stages.Open s f.bytes f.said f.wrote = at_stage s stages.Open f.bytes f.said f.wrote eq g.at in
-    let awaits : Awaits s.calling.told f.bytes (f.said ++ t.added) call state stream = t.stands s.calling.told f.bytes f.said at.1 in
-    let asked : Asked s.calling.told f.bytes (f.said ++ t.added) call state stream.rest = awaits.asked in
-    let stuck : Stuck s.calling.told f.bytes ((f.said ++ t.added) ++ []) = record { state = asked.state; rest = asked.behind; walked = subst (λ x. Walked s.calling.told f.bytes x asked.state asked.behind) (sym (append-nil (f.said ++ t.added))) asked.walked } in
-    ends_stuck stopping ends.NoMemory s s.flow calling state stream output' sent
-    (flows_same s.first s.flow output output' sent (flows_more s.first s.flow s.output output t.added s.sent sent f t.sent_is t.output) out) []
-    (subst (λ c. Stuck c.told f.bytes ((f.said ++ t.added) ++ [])) (sym same) stuck) tt (ap (λ c. c.under) same ∙ at.0) tt tt
 
 -- QUIT
 pub took_quit : (stopping : Bool) (s : Sight) (state : State) (stream : Stream) (output : Bytes) (sent : ℕ) → Going s → s.stage ≡ stages.Open → Took taken.Quit s.sent sent s.state state s.stream stream s.output output

@@ -1,6 +1,7 @@
 -- What each answer of the reader and of the machine makes of a session.
 use Rattle.std.proofs.Common.{◌≡◌, ℕ, ◌+◌, ◌-◌, List, [], ◌∷◌, ◌++◌, length, refl, sym, subst, ◌∙◌, arith, append-nil}
 use Rattle.std.specs.Prelude.{None}
+use Rattle.std.specs.Global.{Box}
 use Rattle.df_model.specs.Values.{Bytes}
 use Rattle.df_model.specs.Words.{Words}
 use Rattle.df_model.specs.Replies.{encoding_of, protocol_error}
@@ -14,9 +15,11 @@ use Rattle.df_resp.specs.Stream.{Stream, Counts, place_of}
 use Rattle.df_resp.proofs.FramedLaws.{partial_behind, bad_at_behind}
 use Rattle.df_resp.proofs.CountLaws.{no_longer, counts_join}
 use Rattle.df_caller.specs.Told.{Told}
-use Rattle.df_conn.specs.Answers.{IsAnswer, Replies, taken_of}
+use Rattle.df_caller.specs.declared.slip.Slip.{Slip}
+use Rattle.df_conn.specs.Answers.{IsAnswer, Replies, TookWords, taken_of}
 use Rattle.df_conn.specs.declared.answer.Answer.{Answer}
 use Rattle.df_conn.specs.declared.answer.Answer.TheVariants as answers
+use Rattle.df_conn.specs.declared.talk.Taken.{Taken}
 use Rattle.df_conn.specs.declared.talk.Taken.TheVariants as taken
 use Rattle.df_conn.specs.Walked.{Walked}
 use Rattle.df_conn.specs.Talks.{Stands, Awaits, Stuck, StandsNext, Took}
@@ -48,10 +51,10 @@ stuck_here : (told : List Told) (bytes said : Bytes) (state : State) (old : Stre
 stuck_here told bytes said state old s = record { state = state; rest = old.rest; walked = subst (λ x. Walked told bytes x state old.rest) (sym (append-nil said)) s.walked }
 
 -- a request was given and answered
-pub took_words : (a : Answer) (words : Words) (sent_old sent : ℕ) (state after : State) (old new : Stream) (before now : Bytes) → sent ≡ sent_old
+pub took_words : (t : Taken) (words : Words) (sent_old sent : ℕ) (state after : State) (old new : Stream) (before now : Bytes) → sent ≡ sent_old
     → (old.failed ≡ None → (new.failed ≡ None) × Splits old.rest (words ∷ []) new.rest) → Counts old.before old.rest new.before new.rest
-    → IsAnswer a words state after before now → Took (taken_of a) sent_old sent state after old new before now
-took_words answers.Replied words sent_old sent state after old new before now eq gave counts is = record {
+    → TookWords t words state after before now → Took t sent_old sent state after old new before now
+took_words taken.Replied words sent_old sent state after old new before now eq gave counts is = record {
   sent_is = eq;
   added = encoding_of is.0;
   output = is.1;
@@ -59,15 +62,15 @@ took_words answers.Replied words sent_old sent state after old new before now eq
   stands = λ told bytes said s. stands_reply told bytes said state after words is.0 old new s (gave s.good).0 (gave s.good).1 counts is.2;
   takes = λ good. (words, (gave good).1);
 }
-took_words (answers.Calls call) words sent_old sent state after old new before now eq gave counts is = record {
+took_words (taken.Calls slip) words sent_old sent state after old new before now eq gave counts is = record {
   sent_is = eq;
   added = [];
   output = is.1 ∙ sym (append-nil before);
   adds = tt;
-  stands = λ told bytes said s. subst (λ x. Awaits told bytes x call after new) (sym (append-nil said)) (awaits_call told bytes said state after words call old new s (gave s.good).0 (gave s.good).1 counts is.0);
+  stands = λ told bytes said s. subst (λ x. Awaits told bytes x slip.value.call after new) (sym (append-nil said)) (awaits_call told bytes said state after words slip.value.call old new s (gave s.good).0 (gave s.good).1 counts is.0);
   takes = λ good. (words, (gave good).1);
 }
-took_words answers.Quit words sent_old sent state after old new before now eq gave counts is = record {
+took_words taken.Quit words sent_old sent state after old new before now eq gave counts is = record {
   sent_is = eq;
   added = encoding_of is.0;
   output = is.1;
@@ -75,7 +78,7 @@ took_words answers.Quit words sent_old sent state after old new before now eq ga
   stands = λ told bytes said s. closes_quit told bytes said state after old.rest new.rest words is.0 s.walked (gave s.good).1 is.2;
   takes = λ good. (words, (gave good).1);
 }
-took_words answers.Asked words sent_old sent state after old new before now eq gave counts is = record {
+took_words taken.Asked words sent_old sent state after old new before now eq gave counts is = record {
   sent_is = eq;
   added = [];
   output = is.1 ∙ sym (append-nil before);
@@ -83,7 +86,7 @@ took_words answers.Asked words sent_old sent state after old new before now eq g
   stands = λ told bytes said s. subst (λ x. StandsNext taken.Asked told bytes x after new) (sym (append-nil said)) (closes_asked told bytes said state after old.rest new.rest words s.walked (gave s.good).1 is.0);
   takes = λ good. (words, (gave good).1);
 }
-took_words answers.NoMemory words sent_old sent state after old new before now eq gave counts is = record {
+took_words taken.NoMemory words sent_old sent state after old new before now eq gave counts is = record {
   sent_is = eq;
   added = [];
   output = is ∙ sym (append-nil before);
@@ -91,6 +94,17 @@ took_words answers.NoMemory words sent_old sent state after old new before now e
   stands = λ told bytes said s. stuck_here told bytes said state old s;
   takes = λ good. tt;
 }
+took_words taken.Dry words sent_old sent state after old new before now eq gave counts is = absurd is
+took_words (taken.Bad kind at) words sent_old sent state after old new before now eq gave counts is = absurd is
+
+-- ---- an answer, once it is taken
+
+pub took_answer : (a : Answer) (slip : Box Slip) (words : Words) (state after : State) (before now : Bytes) → IsAnswer a words state after slip.value.call before now → TookWords (taken_of a slip) words state after before now
+took_answer answers.Replied slip words state after before now is = is
+took_answer answers.Calls slip words state after before now is = is
+took_answer answers.Quit slip words state after before now is = is
+took_answer answers.Asked slip words state after before now is = is
+took_answer answers.NoMemory slip words state after before now is = is
 
 -- nothing is whole
 pub took_none : (sent_old sent : ℕ) (state after : State) (old new : Stream) (before now : Bytes) → sent ≡ sent_old → after ≡ state → now ≡ before

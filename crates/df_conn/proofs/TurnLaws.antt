@@ -103,13 +103,13 @@ under_way s g eq =
 same_call : (call other : Call) (under : Option Call) → under ≡ Some call → under ≡ Some other → call ≡ other
 same_call call other under a b = search rules
 
-pub went_pending : (stopping : Bool) (s : Sight) (calling : Calling) (output : Bytes) → Going s → s.stage ≡ stages.Calling → Waits s.calling calling → output ≡ s.output → Turned turns.NotYet stopping s (record s { calling = calling; output = output })
-went_pending stopping s calling output g eq w out =
+pub went_pending : (stopping : Bool) (s : Sight) (calling : Calling) → Going s → s.stage ≡ stages.Calling → Waits s.calling calling → Turned turns.NotYet stopping s (record s { calling = calling })
+went_pending stopping s calling g eq w =
     let u = under_way s g eq in
     let f = g.flows in
-    let at : At stages.Calling (record s { calling = calling; output = output }) f.bytes f.said f.wrote =
+    let at : At stages.Calling (record s { calling = calling }) f.bytes f.said f.wrote =
     (u.call, w.under ∙ u.under, subst (λ t. Awaits t f.bytes f.said u.call s.state s.stream) (sym w.told) u.awaits) in
-    (record { flows = flows_same s.first s.flow s.output output s.sent f out; at = subst (λ x. At x (record s { calling = calling; output = output }) f.bytes f.said f.wrote) (sym eq) at }, subst IsGoing (sym eq) tt, inr (w.rose, w.early))
+    (record { flows = f; at = subst (λ x. At x (record s { calling = calling }) f.bytes f.said f.wrote) (sym eq) at }, subst IsGoing (sym eq) tt, inr (w.rose, w.early))
 
 answered : (s : Sight) (calling : Calling) (f : Flows s.first s.flow s.output s.sent) → Under s f → (a : Answers s.calling calling) → Walked calling.told f.bytes (f.said ++ encoding_of a.reply) s.state s.stream.rest
 answered s calling f u a =
@@ -144,13 +144,13 @@ went_unsaid stopping s calling output g eq a out =
     (record { state = s.state; rest = s.stream.rest; walked = answered s calling f u a }) tt a.under tt tt
 
 -- the call never ran
-pub went_not_run : (stopping : Bool) (s : Sight) (calling : Calling) (output output' : Bytes) → Going s → s.stage ≡ stages.Calling → GivesUp s.calling calling → output ≡ s.output → output' ≡ output ++ encoding_of (Error errors.Memory)
-    → Turned turns.Moved stopping s (record s { stage = stages.Open; calling = calling; output = output' })
-went_not_run stopping s calling output output' g eq w out out' =
+pub went_not_run : (stopping : Bool) (s : Sight) (calling : Calling) (output : Bytes) → Going s → s.stage ≡ stages.Calling → GivesUp s.calling calling → output ≡ s.output ++ encoding_of (Error errors.Memory)
+    → Turned turns.Moved stopping s (record s { stage = stages.Open; calling = calling; output = output })
+went_not_run stopping s calling output g eq w out =
     let u = under_way s g eq in
     let f = g.flows in (
       record {
-        flows = flows_more s.first s.flow s.output output' (encoding_of (Error errors.Memory)) s.sent s.sent f refl (out' ∙ ap (λ x. x ++ encoding_of (Error errors.Memory)) out);
+        flows = flows_more s.first s.flow s.output output (encoding_of (Error errors.Memory)) s.sent s.sent f refl out;
         at = (
           w.under,
           record {
@@ -161,7 +161,7 @@ went_not_run stopping s calling output output' g eq w out out' =
         );
       },
       tt,
-      Moves.called u.call u.under w.under (settles s (record s { stage = stages.Open; calling = calling; output = output' }) eq refl refl refl),
+      Moves.called u.call u.under w.under (settles s (record s { stage = stages.Open; calling = calling; output = output }) eq refl refl refl),
     )
 
 -- and the session ends by it

@@ -45,7 +45,7 @@ pub record Stuck (told : List Told) (bytes said : Bytes) : Type 0 where
 
 abbrev pub StandsNext : Taken → List Told → Bytes → Bytes → State → Stream → Type 0
 StandsNext taken.Replied told bytes said state stream = Stands told bytes said state stream
-StandsNext (taken.Calls call) told bytes said state stream = Awaits told bytes said call state stream
+StandsNext (taken.Calls slip) told bytes said state stream = Awaits told bytes said slip.value.call state stream
 StandsNext taken.Quit told bytes said state stream = Closes ends.Quit bytes said told
 StandsNext taken.Asked told bytes said state stream = Closes ends.Asked bytes said told
 StandsNext taken.Dry told bytes said state stream = Stands told bytes said state stream × IsDry bytes stream
@@ -58,7 +58,7 @@ LeavesRest old new = (words : Words) × Splits old (words ∷ []) new
 
 abbrev pub TakesOne : Taken → Bytes → Bytes → Type 0
 TakesOne taken.Replied old new = LeavesRest old new
-TakesOne (taken.Calls call) old new = LeavesRest old new
+TakesOne (taken.Calls slip) old new = LeavesRest old new
 TakesOne taken.Quit old new = LeavesRest old new
 TakesOne taken.Asked old new = LeavesRest old new
 TakesOne taken.Dry old new = Splits old [] new
@@ -68,7 +68,7 @@ TakesOne taken.NoMemory old new = Unit {0}
 -- where none is whole nothing is said
 abbrev pub AddsFor : Taken → Bytes → Type 0
 AddsFor taken.Replied added = Unit {0}
-AddsFor (taken.Calls call) added = Unit {0}
+AddsFor (taken.Calls slip) added = Unit {0}
 AddsFor taken.Quit added = Unit {0}
 AddsFor taken.Asked added = Unit {0}
 AddsFor taken.Dry added = added ≡ []

@@ -111,14 +111,11 @@ impl<L: Link, C: Caller> Conn<L, C> {
         ensures id { self.new.id ≡ self.old.id }
         ensures first { self.new.first.value ≡ self.old.first.value }
     {
-        match self.caller.step(&mut self.talk.output) {
+        match self.caller.step() {
             Went::Pending => Turn::NotYet,
-            Went::Finished => {
-                self.stage = Stage::Open;
-                Turn::Moved
-            }
-            Went::NoMemory => match encode_error(&ErrorText::Memory, &mut self.talk.output) {
+            Went::Finished(slip) => match slip.reply.append_to(&mut self.talk.output) {
                 Ok(()) => {
+                    self.talk.slip = Some(slip);
                     self.stage = Stage::Open;
                     Turn::Moved
                 }
@@ -127,11 +124,22 @@ impl<L: Link, C: Caller> Conn<L, C> {
                     Turn::Ended(Why::NoMemory)
                 }
             },
-            Went::Unsaid => {
+            Went::NoMemory(slip) => match encode_error(&ErrorText::Memory, &mut self.talk.output) {
+                Ok(()) => {
+                    self.talk.slip = Some(slip);
+                    self.stage = Stage::Open;
+                    Turn::Moved
+                }
+                Err(_) => {
+                    self.stage = Stage::Over(Why::NoMemory);
+                    Turn::Ended(Why::NoMemory)
+                }
+            },
+            Went::Unsaid(_) => {
                 self.stage = Stage::Over(Why::NoMemory);
                 Turn::Ended(Why::NoMemory)
             }
-            Went::Spent => {
+            Went::Spent(_) => {
                 self.stage = Stage::Over(Why::Spent);
                 Turn::Ended(Why::Spent)
             }
@@ -172,19 +180,11 @@ impl<L: Link, C: Caller> Conn<L, C> {
     {
         match self.talk.take() {
             Taken::Replied => Some(Turn::Moved),
-            Taken::Calls(call) => match self.caller.begin(call) {
-                Ok(()) => {
-                    self.stage = Stage::Calling;
-                    Some(Turn::Moved)
-                }
-                Err(_) => match encode_error(&ErrorText::Memory, &mut self.talk.output) {
-                    Ok(()) => Some(Turn::Moved),
-                    Err(_) => {
-                        self.stage = Stage::Over(Why::NoMemory);
-                        Some(Turn::Ended(Why::NoMemory))
-                    }
-                },
-            },
+            Taken::Calls(slip) => {
+                self.caller.begin(slip);
+                self.stage = Stage::Calling;
+                Some(Turn::Moved)
+            }
             Taken::Quit => {
                 self.stage = Stage::Closing(Why::Quit);
                 Some(Turn::Moved)

@@ -2,11 +2,14 @@
 
 ghost use Rattle.std.specs.Prelude.{◌≡◌, ◌≤◌, ◌+◌, ◌-◌, None, [], length, drop};
 ghost use Rattle.df_model.specs.Session.{State};
-ghost use Rattle.df_conn.specs.Answers.{taken_of};
+ghost use Rattle.df_model.specs.Words.{Words};
+ghost use Rattle.df_conn.specs.Answers.{TookWords, taken_of};
 ghost use Rattle.df_conn.specs.Talks.{Took, Passed};
 
-use crate::answer::{Answer, take_words};
-use df_model::{BadKind, Call};
+use crate::answer::{Answer, refuse_words, take_words};
+use bytes::Bytes;
+use df_caller::Slip;
+use df_model::BadKind;
 use df_multi::MultiState;
 use df_resp::{Next, Reader, encode_protocol_error};
 use std::alloc::Global;
@@ -16,6 +19,8 @@ use std::alloc::Global;
 pub struct Talk {
     alloc: Global,
     pub state: MultiState,
+    /// What its calls are given in: none before the first request, and none while a call is under way.
+    pub slip: Option<Box<Slip>>,
     /// The bytes that were read, from the first request that isn't taken.
     pub reader: Reader,
     /// Replies, of which the first `sent` bytes were written.
@@ -27,8 +32,8 @@ pub struct Talk {
 pub enum Taken {
     /// Its reply was added.
     Replied,
-    /// It is this call.
-    Calls(Call),
+    /// It is the call of this slip.
+    Calls(Box<Slip>),
     /// QUIT, whose reply was added.
     Quit,
     /// SHUTDOWN.
@@ -53,6 +58,7 @@ impl Talk {
         Talk {
             alloc,
             state: MultiState::new(),
+            slip: None,
             reader: Reader::new(alloc),
             output: Vec::new(alloc),
             sent: 0,
@@ -95,14 +101,9 @@ impl Talk {
     {
         match self.reader.next() {
             Ok(Next::Words(words)) => {
-                let answer = take_words(
-                    self.alloc,
-                    &mut self.state,
-                    words.as_slice(),
-                    &mut self.output,
-                );
+                let taken = self.take_words(words.as_slice());
                 self.reader.give_back(words);
-                taken_by(answer)
+                taken
             }
             Ok(Next::NeedMore) => Taken::Dry,
             Ok(Next::Bad { kind, at }) => match encode_protocol_error(kind, &mut self.output) {
@@ -112,17 +113,69 @@ impl Talk {
             Err(_) => Taken::NoMemory,
         }
     }
+
+    /// Takes the request of these words. The slip is boxed for the first one, so that a connection which never asked for
+    /// anything has none.
+    fn take_words(&mut self, words: &[Bytes]) -> Taken
+        ensures sent { self.new.sent ≡ self.old.sent }
+        ensures reader { self.new.reader ≡ self.old.reader }
+        ensures took { TookWords result words.now self.old.state self.new.state self.old.output.items self.new.output.items }
+    {
+        let mut slip = match self.slip.take() {
+            Some(slip) => slip,
+            None => match Box::new(self.alloc, Slip::new(self.alloc)) {
+                Ok(slip) => slip,
+                Err(_) => return self.refuse(),
+            },
+        };
+        let answer = take_words(
+            self.alloc,
+            &mut self.state,
+            words,
+            &mut slip.call,
+            &mut self.output,
+        );
+        taken_by(answer, slip, &mut self.slip)
+    }
+
+    /// Takes no request for want of memory.
+    fn refuse(&mut self) -> Taken
+        ensures sent { self.new.sent ≡ self.old.sent }
+        ensures reader { self.new.reader ≡ self.old.reader }
+        ensures took { (words : Words) → TookWords result words self.old.state self.new.state self.old.output.items self.new.output.items }
+    {
+        match refuse_words(&mut self.state, &mut self.output) {
+            Ok(()) => Taken::Replied,
+            Err(_) => Taken::NoMemory,
+        }
+    }
+
+    /// Lets memory go that an idle connection doesn't need: all of it, where no request is begun and no output waits.
+    pub fn shrink(&mut self)
+        ensures state { self.new.state ≡ self.old.state }
+        ensures reader { self.new.reader ≡ self.old.reader }
+        ensures output { self.new.output.items ≡ self.old.output.items }
+        ensures sent { self.new.sent ≡ self.old.sent }
+    {
+        self.slip = None;
+        self.reader.shrink();
+        if self.output.is_empty() {
+            self.output = Vec::new(self.alloc);
+        }
+    }
 }
 
-/// What follows from an answer.
-fn taken_by(answer: Answer) -> Taken
-    ensures { result ≡ taken_of answer }
+/// What follows from an answer. The slip goes with a call, and else is kept for the next one.
+fn taken_by(answer: Answer, slip: Box<Slip>, kept: &mut Option<Box<Slip>>) -> Taken
+    ensures { result ≡ taken_of answer slip }
 {
-    match answer {
+    let taken = match answer {
+        Answer::Calls => return Taken::Calls(slip),
         Answer::Replied => Taken::Replied,
-        Answer::Calls(call) => Taken::Calls(call),
         Answer::Quit => Taken::Quit,
         Answer::Asked => Taken::Asked,
         Answer::NoMemory => Taken::NoMemory,
-    }
+    };
+    *kept = Some(slip);
+    taken
 }

@@ -6,6 +6,8 @@ use Rattle.df_model.specs.Calls.{Allowed}
 use Rattle.df_model.specs.Replies.{encoding_of}
 use Rattle.df_model.specs.declared.command.Call.{Call}
 use Rattle.df_caller.specs.Told.{Told}
+use Rattle.df_desk.specs.declared.place.Outcome.{Outcome}
+use Rattle.df_desk.specs.declared.place.Outcome.TheVariants as outcomes
 use Rattle.df_desk.specs.declared.place.Place.{Place}
 use Rattle.df_desk.specs.declared.place.Place.TheVariants as places
 
@@ -15,17 +17,24 @@ pub record HasGiven (ran : Told) (call : Call) (K after : Keyspace) : Type 0 whe
   pub marks : List Bool
   pub allowed : Allowed ran.call marks K ran.reply after
 
-abbrev pub HasRun : Place → Call → Keyspace → Keyspace → Bytes → Type 0
-HasRun places.Empty call K after reply = ⊥
-HasRun (places.Waits waits) call K after reply = ⊥
-HasRun (places.Ran ran) call K after reply = HasGiven ran call K after × (reply ≡ encoding_of ran.reply)
-HasRun (places.Unsaid ran) call K after reply = HasGiven ran call K after
-HasRun (places.NoMemory none) call K after reply = (none.value ≡ call) × (after ≡ K)
+-- it ran and its reply is these bytes, or it ran and its reply found no memory, or it found none and nothing changed
+abbrev pub CameTo : Outcome → Call → Keyspace → Keyspace → Bytes → Type 0
+CameTo (outcomes.Ran ran) call K after reply = HasGiven ran call K after × (reply ≡ encoding_of ran.reply)
+CameTo (outcomes.Unsaid ran) call K after reply = HasGiven ran call K after
+CameTo outcomes.NoMemory call K after reply = after ≡ K
+
+-- the same of a place, whose slip has the reply
+abbrev pub HasRun : Place → Call → Keyspace → Keyspace → Type 0
+HasRun places.Empty call K after = ⊥
+HasRun (places.Waits slip) call K after = ⊥
+HasRun (places.Ran slip ran) call K after = HasGiven ran call K after × (slip.value.reply ≡ encoding_of ran.reply)
+HasRun (places.Unsaid slip ran) call K after = HasGiven ran call K after
+HasRun (places.NoMemory slip none) call K after = (none.value ≡ call) × (after ≡ K)
 
 -- and where no call waited, nothing changed
-abbrev pub HasServed : Place → Place → Keyspace → Keyspace → Bytes → Bytes → Type 0
-HasServed result places.Empty K after before now = (result ≡ places.Empty) × (after ≡ K) × (now ≡ before)
-HasServed result (places.Waits call) K after before now = HasRun result call K after now
-HasServed result (places.Ran ran) K after before now = (result ≡ places.Ran ran) × (after ≡ K) × (now ≡ before)
-HasServed result (places.Unsaid ran) K after before now = (result ≡ places.Unsaid ran) × (after ≡ K) × (now ≡ before)
-HasServed result (places.NoMemory call) K after before now = (result ≡ places.NoMemory call) × (after ≡ K) × (now ≡ before)
+abbrev pub HasServed : Place → Place → Keyspace → Keyspace → Type 0
+HasServed result places.Empty K after = (result ≡ places.Empty) × (after ≡ K)
+HasServed result (places.Waits slip) K after = HasRun result slip.value.call K after
+HasServed result (places.Ran slip ran) K after = (result ≡ places.Ran slip ran) × (after ≡ K)
+HasServed result (places.Unsaid slip ran) K after = (result ≡ places.Unsaid slip ran) × (after ≡ K)
+HasServed result (places.NoMemory slip call) K after = (result ≡ places.NoMemory slip call) × (after ≡ K)

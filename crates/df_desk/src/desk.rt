@@ -4,20 +4,16 @@ ghost use Rattle.std.specs.Prelude.{◌≡◌, None, true};
 
 use crate::answered::Answered;
 use crate::place::{Place, is_due, served};
-use df_caller::{Caller, Went};
-use df_model::Call;
+use df_caller::{Caller, Slip, Went};
 use df_table::Table;
-use df_values::Pieces;
 use std::alloc::Global;
 use std::marker::Model;
 use std::mem;
 
-/// A place for one call and its reply.
+/// A place for one slip.
 #[derive(Drop)]
 pub struct Desk {
     place: Place,
-    /// The reply's bytes. Their memory is kept from call to call.
-    reply: Pieces,
     stalls: u64,
     answered: Answered,
 }
@@ -35,7 +31,7 @@ impl Model for Desk {
 
     ghost view = { desk_of };
 
-    ghost invariant = { λ d. said_at d.place d.reply };
+    ghost invariant = { λ d. said_at d.place };
 }
 
 impl Desk {
@@ -43,13 +39,12 @@ impl Desk {
     ghost use Rattle.df_desk.specs.States.{Served};
 
     /// No call. Takes no memory.
-    pub fn new(alloc: Global) -> Desk
+    pub fn new() -> Desk
         ensures calling { result.calling ≡ record { told = []; under = None; stalls = 0; due = true } }
         ensures ran { result.ran ≡ [] }
     {
         Desk {
             place: Place::Empty,
-            reply: Pieces::new(alloc),
             stalls: 0,
             answered: Answered::new(),
         }
@@ -63,7 +58,6 @@ impl Desk {
     {
         let Desk {
             place: _,
-            reply: _,
             stalls: _,
             answered,
         } = self;
@@ -78,7 +72,7 @@ impl Desk {
             return;
         }
         let place = mem::replace(&mut self.place, Place::Empty);
-        self.place = served(place, alloc, table, &mut self.reply);
+        self.place = served(place, alloc, table);
     }
 }
 
@@ -87,34 +81,26 @@ impl Caller for Desk {
 
     ghost ran = { λ d. d.ran };
 
-    fn begin(&mut self, call: Call) -> Result<(), Call> {
-        match mem::replace(&mut self.place, Place::Waits(call)) {
-            Place::Empty => Ok(()),
-            Place::Waits(_) | Place::Ran(_) | Place::Unsaid(_) | Place::NoMemory(_) => {
-                unreachable!()
-            }
-        }
+    fn begin(&mut self, slip: Box<Slip>) {
+        self.place = Place::Waits(slip);
     }
 
-    fn step(&mut self, out: &mut Vec<u8>) -> Went {
+    fn step(&mut self) -> Went {
         if let Place::Waits(_) = &self.place {
             self.stalls = self.stalls.saturating_add(1);
             return Went::Pending;
         }
         match mem::replace(&mut self.place, Place::Empty) {
             Place::Waits(_) | Place::Empty => unreachable!(),
-            Place::Ran(ran) => {
+            Place::Ran(slip, ran) => {
                 self.answered.push(ran);
-                match self.reply.append_to(out) {
-                    Ok(()) => Went::Finished,
-                    Err(_none) => Went::Unsaid,
-                }
+                Went::Finished(slip)
             }
-            Place::Unsaid(ran) => {
+            Place::Unsaid(slip, ran) => {
                 self.answered.push(ran);
-                Went::Unsaid
+                Went::Unsaid(slip)
             }
-            Place::NoMemory(_) => Went::NoMemory,
+            Place::NoMemory(slip, _) => Went::NoMemory(slip),
         }
     }
 }

@@ -9,9 +9,9 @@ ghost use Rattle.std.specs.List.{flat_map};
 ghost use Rattle.df_model.specs.Replies.{crlf};
 ghost use Rattle.df_model.specs.declared.command.Call.TheVariants.{Exec};
 ghost use Rattle.df_desk.specs.Parts.{Gave, GaveAll, bytes_of};
-ghost use Rattle.df_desk.specs.Runs.{HasRun};
+ghost use Rattle.df_desk.specs.Runs.{CameTo};
 
-use crate::place::{Place, run_command};
+use crate::place::{Outcome, run_command};
 use crate::ran::Ran;
 use df_model::{Call, Command, Commands, ErrorText, NoMemory, Reserved};
 use df_table::Table;
@@ -35,20 +35,20 @@ pub(crate) fn run_exec(
     commands: Commands,
     table: &mut Table,
     reply: &mut Pieces,
-) -> Place
+) -> Outcome
     requires { call.value ≡ Exec commands }
-    ensures { HasRun result call.value table.old.keys table.new.keys reply.new }
+    ensures { CameTo result call.value table.old.keys table.new.keys reply.new }
 {
     let mut parts = Reserved::new(alloc);
     let Ok(()) = parts.reserve(commands.len()) else {
-        return Place::NoMemory(call);
+        return Outcome::NoMemory;
     };
     let before = Snapshot::of(table);
     run_each(alloc, commands, table, &mut parts);
     let ran = Ran::new(call, before, Snapshot::of(&parts));
     match join(parts.as_slice(), reply) {
-        Ok(()) => Place::Ran(ran),
-        Err(_none) => Place::Unsaid(ran),
+        Ok(()) => Outcome::Ran(ran),
+        Err(_none) => Outcome::Unsaid(ran),
     }
 }
 

@@ -1,9 +1,9 @@
-//! The place of a call, and what is made of a call that waits there.
+//! The place of a call's slip, and what is made of a call that waits there.
 //!
 //!     place      of the call
 //!     Empty      none is under way
 //!     Waits      it was begun
-//!     Ran        it ran, and its reply lies in the desk
+//!     Ran        it ran, and its reply lies in the slip
 //!     Unsaid     it ran, and its reply found no memory
 //!     NoMemory   it found none, and never ran
 
@@ -13,24 +13,37 @@ ghost use Rattle.df_model.specs.Reads.{saves};
 ghost use Rattle.df_model.specs.declared.command.Call.TheVariants.{Single};
 ghost use Rattle.df_table.specs.Responses.{Gives};
 ghost use Rattle.df_desk.specs.Desks.{due_at};
-ghost use Rattle.df_desk.specs.Runs.{HasRun, HasServed};
+ghost use Rattle.df_desk.specs.Runs.{CameTo, HasRun, HasServed};
 
 use crate::exec::run_exec;
 use crate::ran::Ran;
+use df_caller::Slip;
 use df_model::{Call, Command, NoMemory, Reserved, WholeOp};
 use df_table::Table;
 use df_values::Pieces;
 use std::alloc::Global;
 use std::snapshot::Snapshot;
 
-/// Where a desk's call stands.
+/// Where a desk's call stands, with its slip.
 #[derive(Drop)]
 pub(crate) enum Place {
     Empty,
-    Waits(Call),
+    Waits(Box<Slip>),
+    Ran(Box<Slip>, Ran),
+    Unsaid(Box<Slip>, Ran),
+    /// The call as it was, since running it may have emptied it.
+    NoMemory(Box<Slip>, Snapshot<Call>),
+}
+
+/// What came of running a call.
+#[derive(Drop)]
+pub(crate) enum Outcome {
+    /// It ran, and its reply was written.
     Ran(Ran),
+    /// It ran, and its reply found no memory.
     Unsaid(Ran),
-    NoMemory(Snapshot<Call>),
+    /// It found none, and never ran.
+    NoMemory,
 }
 
 /// Whether no call waits here.
@@ -40,51 +53,63 @@ pub(crate) fn is_due(place: &Place) -> bool
     match place {
         Place::Waits(_) => false,
         Place::Empty => true,
-        Place::Ran(_) => true,
-        Place::Unsaid(_) => true,
-        Place::NoMemory(_) => true,
+        Place::Ran(_, _) => true,
+        Place::Unsaid(_, _) => true,
+        Place::NoMemory(_, _) => true,
     }
 }
 
 /// Runs the call, if it waits.
-pub(crate) fn served(place: Place, alloc: Global, table: &mut Table, reply: &mut Pieces) -> Place
-    ensures { HasServed result place table.old.keys table.new.keys reply.old reply.new }
+pub(crate) fn served(place: Place, alloc: Global, table: &mut Table) -> Place
+    ensures { HasServed result place table.old.keys table.new.keys }
 {
     match place {
-        Place::Waits(call) => run(alloc, call, table, reply),
+        Place::Waits(slip) => run(alloc, slip, table),
         Place::Empty => Place::Empty,
-        Place::Ran(ran) => Place::Ran(ran),
-        Place::Unsaid(ran) => Place::Unsaid(ran),
-        Place::NoMemory(call) => Place::NoMemory(call),
+        Place::Ran(slip, ran) => Place::Ran(slip, ran),
+        Place::Unsaid(slip, ran) => Place::Unsaid(slip, ran),
+        Place::NoMemory(slip, call) => Place::NoMemory(slip, call),
     }
 }
 
-/// Runs a call, and leaves its reply.
-fn run(alloc: Global, call: Call, table: &mut Table, reply: &mut Pieces) -> Place
-    ensures { HasRun result call table.old.keys table.new.keys reply.new }
+/// Runs the slip's call.
+fn run(alloc: Global, mut slip: Box<Slip>, table: &mut Table) -> Place
+    ensures { HasRun result slip.value.call table.old.keys table.new.keys }
 {
-    let kept = Snapshot::of(&call);
-    match call {
-        Call::Single(command) => run_single(alloc, kept, command, table, reply),
-        Call::Exec(commands) => run_exec(alloc, kept, commands, table, reply),
+    let call = Snapshot::of(&slip.call);
+    match run_call(alloc, &mut slip, table) {
+        Outcome::Ran(ran) => Place::Ran(slip, ran),
+        Outcome::Unsaid(ran) => Place::Unsaid(slip, ran),
+        Outcome::NoMemory => Place::NoMemory(slip, call),
+    }
+}
+
+/// Runs the slip's call, and leaves its reply there.
+fn run_call(alloc: Global, slip: &mut Slip, table: &mut Table) -> Outcome
+    ensures { CameTo result slip.old.call table.old.keys table.new.keys slip.new.reply }
+{
+    let call = Snapshot::of(&slip.call);
+    match &mut slip.call {
+        Call::Single(command) => run_single(alloc, call, command, table, &mut slip.reply),
+        Call::Exec(commands) => run_exec(alloc, call, commands.take(), table, &mut slip.reply),
     }
 }
 
 fn run_single(
     alloc: Global,
     call: Snapshot<Call>,
-    mut command: Command,
+    command: &mut Command,
     table: &mut Table,
     reply: &mut Pieces,
-) -> Place
-    requires { call.value ≡ Single command }
-    ensures { HasRun result call.value table.old.keys table.new.keys reply.new }
+) -> Outcome
+    requires { call.value ≡ Single command.old }
+    ensures { CameTo result call.value table.old.keys table.new.keys reply.new }
 {
     let before = Snapshot::of(table);
     let parts = Reserved::new(alloc);
-    match run_command(alloc, &mut command, table, reply) {
-        Ok(()) => Place::Ran(Ran::new(call, before, Snapshot::of(&parts))),
-        Err(_none) => Place::NoMemory(call),
+    match run_command(alloc, command, table, reply) {
+        Ok(()) => Outcome::Ran(Ran::new(call, before, Snapshot::of(&parts))),
+        Err(_none) => Outcome::NoMemory,
     }
 }
 

@@ -1,6 +1,6 @@
 //! A request as the machine hears it, and what the machine says to it.
 
-use df_model::{Call, Command, ErrorText, PlainOp};
+use df_model::ErrorText;
 
 /// A request that speaks to the session itself.
 #[derive(Clone, Copy, Debug, PartialEq, Eq)]
@@ -15,7 +15,8 @@ pub enum Control {
 /// A request, as the machine hears it.
 #[derive(Debug, Drop)]
 pub enum Heard {
-    Command(Command),
+    /// A command, which stands in the call beside.
+    Command,
     Control(Control),
     /// An unknown name, or a wrong count of words.
     Refused(ErrorText),
@@ -29,10 +30,10 @@ pub enum Said {
     /// QUEUED.
     Queued,
     Error(ErrorText),
-    /// The reply of this command, which needs no keyspace.
-    Plain(PlainOp),
-    /// The reply of this call, once it ran.
-    Run(Call),
+    /// The reply of the command beside, which needs no keyspace.
+    AtOnce,
+    /// The reply of the call beside, once it ran.
+    Run,
     /// OK, and the session ends.
     Bye,
     /// The session ends without a reply.

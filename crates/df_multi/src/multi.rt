@@ -4,8 +4,9 @@
 ghost use Rattle.std.specs.Prelude.{◌≡◌};
 ghost use Rattle.df_model.specs.Reads.{saves};
 ghost use Rattle.df_model.specs.Session as session;
-ghost use Rattle.df_model.specs.Session.{State, machine, ready_step, queueing_step, given, append, execute, without_memory};
-ghost use Rattle.df_multi.specs.Machine.{control_of, heard_of, Says};
+ghost use Rattle.df_model.specs.Session.{State, machine, ready_step, queueing_step, append, execute, without_memory};
+ghost use Rattle.df_model.specs.declared.command.Call.{Call as ModelCall};
+ghost use Rattle.df_multi.specs.Machine.{control_of, heard_of, IsHeard, Says};
 ghost use Rattle.df_multi.specs.Kept.{state_of};
 
 use crate::heard::{Control, Heard, Said};
@@ -48,18 +49,19 @@ impl MultiState {
         MultiState { kept: Kept::Ready }
     }
 
-    /// Takes a request. At `Said::NoMemory` it took none, and an open transaction is broken.
-    pub fn step(&mut self, alloc: Global, heard: Heard) -> Said
-        ensures { Says result self.old (machine self.old (heard_of heard)) self.new }
+    /// Takes a request; a command that it spells stands in the call, and is moved out where it is queued. At `Said::Run`
+    /// the call is the one to run. At `Said::NoMemory` no step was taken, and an open transaction is broken.
+    pub fn step(&mut self, alloc: Global, heard: Heard, call: &mut Call) -> Said
+        requires { IsHeard heard call.old }
+        ensures { Says result self.old (machine self.old (heard_of heard call.old)) call.new self.new }
     {
+        if let Kept::Ready = &self.kept {
+            return ready(alloc, &mut self.kept, heard, call);
+        }
         match mem::replace(&mut self.kept, Kept::Ready) {
-            Kept::Ready => {
-                let (said, next) = ready(alloc, heard);
-                self.kept = next;
-                said
-            }
+            Kept::Ready => unreachable!(),
             Kept::Queueing(commands, broken) => {
-                let (said, next) = queueing(commands, broken, heard);
+                let (said, next) = queueing(commands, broken, heard, call);
                 self.kept = next;
                 said
             }
@@ -78,57 +80,69 @@ impl MultiState {
 }
 
 /// A request outside a transaction.
-fn ready(alloc: Global, heard: Heard) -> (Said, Kept)
-    ensures { Says result.0 State.Ready (ready_step (heard_of heard)) (state_of result.1) }
+fn ready(alloc: Global, kept: &mut Kept, heard: Heard, call: &Call) -> Said
+    requires ready { state_of kept.old ≡ State.Ready }
+    requires heard { IsHeard heard call.now }
+    ensures { Says result State.Ready (ready_step (heard_of heard call.now)) call.now (state_of kept.new) }
 {
     match heard {
-        Heard::Command(command) => (say_command(command), Kept::Ready),
+        Heard::Command => say_command(call),
         Heard::Control(Control::Multi) => {
-            (Said::Ok, Kept::Queueing(Commands::new(alloc), false))
+            *kept = Kept::Queueing(Commands::new(alloc), false);
+            Said::Ok
         }
-        Heard::Control(Control::Exec) => (Said::Error(ErrorText::ExecAlone), Kept::Ready),
-        Heard::Control(Control::Discard) => (Said::Error(ErrorText::DiscardAlone), Kept::Ready),
-        Heard::Control(Control::Quit) => (Said::Bye, Kept::Ready),
-        Heard::Control(Control::Shutdown) => (Said::Stop, Kept::Ready),
-        Heard::Refused(error) => (Said::Error(error), Kept::Ready),
+        Heard::Control(Control::Exec) => Said::Error(ErrorText::ExecAlone),
+        Heard::Control(Control::Discard) => Said::Error(ErrorText::DiscardAlone),
+        Heard::Control(Control::Quit) => Said::Bye,
+        Heard::Control(Control::Shutdown) => Said::Stop,
+        Heard::Refused(error) => Said::Error(error),
     }
 }
 
 /// A command outside a transaction.
-fn say_command(command: Command) -> Said
-    ensures { Says result State.Ready (given command, State.Ready) State.Ready }
+fn say_command(call: &Call) -> Said
+    requires { IsHeard Heard.Command call.now }
+    ensures { Says result State.Ready (ready_step (heard_of Heard.Command call.now)) call.now State.Ready }
 {
-    match command {
-        Command::Plain(op) => Said::Plain(op),
-        Command::One(key, op) => Said::Run(Call::Single(Command::One(key, op))),
-        Command::Many(op) => Said::Run(Call::Single(Command::Many(op))),
-        Command::Whole(op) => Said::Run(Call::Single(Command::Whole(op))),
-        Command::Wrong(error) => Said::Error(error),
+    match call {
+        Call::Single(Command::Plain(_)) => Said::AtOnce,
+        Call::Single(Command::Wrong(_)) => Said::AtOnce,
+        Call::Single(Command::One(_, _)) => Said::Run,
+        Call::Single(Command::Many(_)) => Said::Run,
+        Call::Single(Command::Whole(_)) => Said::Run,
+        Call::Exec(_) => unreachable!(),
     }
 }
 
 /// A request inside a transaction.
-fn queueing(commands: Commands, broken: bool, heard: Heard) -> (Said, Kept)
-    ensures { Says result.0 (State.Queueing commands.items broken) (queueing_step commands.items broken (heard_of heard)) (state_of result.1) }
+fn queueing(commands: Commands, broken: bool, heard: Heard, call: &mut Call) -> (Said, Kept)
+    requires { IsHeard heard call.old }
+    ensures { Says result.0 (State.Queueing commands.items broken) (queueing_step commands.items broken (heard_of heard call.old)) call.new (state_of result.1) }
 {
     match heard {
-        Heard::Command(command) => queue(commands, broken, command),
-        Heard::Control(control) => control_queue(commands, broken, control),
+        Heard::Command => queue(commands, broken, call),
+        Heard::Control(control) => control_queue(commands, broken, control, call),
         Heard::Refused(error) => (Said::Error(error), Kept::Queueing(commands, true)),
     }
 }
 
 /// Queues a command. SAVE can't be part of a transaction.
-fn queue(commands: Commands, broken: bool, command: Command) -> (Said, Kept)
-    ensures { Says result.0 (State.Queueing commands.items broken) (queueing_step commands.items broken (session.Heard.Spoken command)) (state_of result.1) }
+fn queue(commands: Commands, broken: bool, call: &mut Call) -> (Said, Kept)
+    requires { IsHeard Heard.Command call.old }
+    ensures { Says result.0 (State.Queueing commands.items broken) (queueing_step commands.items broken (heard_of Heard.Command call.old)) call.new (state_of result.1) }
 {
-    if is_save(&command) {
-        return (
-            Said::Error(ErrorText::NotInside),
-            Kept::Queueing(commands, true),
-        );
+    match call {
+        Call::Single(command) => {
+            if is_save(command) {
+                return (
+                    Said::Error(ErrorText::NotInside),
+                    Kept::Queueing(commands, true),
+                );
+            }
+            add(commands, broken, command)
+        }
+        Call::Exec(_) => unreachable!(),
     }
-    add(commands, broken, command)
 }
 
 fn is_save(command: &Command) -> bool
@@ -138,8 +152,8 @@ fn is_save(command: &Command) -> bool
 }
 
 /// Adds a command to the queue, where there is room for one more.
-fn add(mut commands: Commands, broken: bool, command: Command) -> (Said, Kept)
-    ensures { Says result.0 (State.Queueing commands.items broken) (append commands.items broken command) (state_of result.1) }
+fn add(mut commands: Commands, broken: bool, command: &mut Command) -> (Said, Kept)
+    ensures { (call : ModelCall) → Says result.0 (State.Queueing commands.items broken) (append commands.items broken command.old) call (state_of result.1) }
 {
     if commands.len() >= MAX_QUEUED {
         return (
@@ -150,20 +164,25 @@ fn add(mut commands: Commands, broken: bool, command: Command) -> (Said, Kept)
     if commands.reserve(1).is_err() {
         return (Said::NoMemory, Kept::Queueing(commands, true));
     }
-    commands.push(command);
+    commands.push(mem::replace(command, Command::Whole(WholeOp::Dbsize)));
     (Said::Queued, Kept::Queueing(commands, broken))
 }
 
 /// A word that speaks to the session itself, inside a transaction.
-fn control_queue(commands: Commands, broken: bool, control: Control) -> (Said, Kept)
-    ensures { Says result.0 (State.Queueing commands.items broken) (queueing_step commands.items broken (session.Heard.Controls (control_of control))) (state_of result.1) }
+fn control_queue(
+    commands: Commands,
+    broken: bool,
+    control: Control,
+    call: &mut Call,
+) -> (Said, Kept)
+    ensures { Says result.0 (State.Queueing commands.items broken) (queueing_step commands.items broken (session.Heard.Controls (control_of control))) call.new (state_of result.1) }
 {
     match control {
         Control::Multi => (
             Said::Error(ErrorText::Nested),
             Kept::Queueing(commands, broken),
         ),
-        Control::Exec => run(commands, broken),
+        Control::Exec => run(commands, broken, call),
         Control::Discard => (Said::Ok, Kept::Ready),
         Control::Quit => (Said::Bye, Kept::Queueing(commands, broken)),
         Control::Shutdown => (
@@ -174,12 +193,13 @@ fn control_queue(commands: Commands, broken: bool, control: Control) -> (Said, K
 }
 
 /// EXEC. The call has no room left over, since its commands are all that it may run.
-fn run(mut commands: Commands, broken: bool) -> (Said, Kept)
-    ensures { Says result.0 (State.Queueing commands.items broken) (execute commands.items broken) (state_of result.1) }
+fn run(mut commands: Commands, broken: bool, call: &mut Call) -> (Said, Kept)
+    ensures { Says result.0 (State.Queueing commands.items broken) (execute commands.items broken) call.new (state_of result.1) }
 {
     if broken {
         return (Said::Error(ErrorText::Aborted), Kept::Ready);
     }
     commands.seal();
-    (Said::Run(Call::Exec(commands)), Kept::Ready)
+    *call = Call::Exec(commands);
+    (Said::Run, Kept::Ready)
 }

@@ -8,20 +8,24 @@ use Rattle.df_model.specs.declared.reply.ErrorText.TheVariants as errors
 use Rattle.df_parse.specs.declared.refusal.Refusal.{Refusal}
 use Rattle.df_parse.specs.declared.refusal.Refusal.TheVariants as refusals
 
--- the answer says what the words say, or that there was no memory to say it
-abbrev pub AsRead : Reading → Result Command Refusal → Type 0
-AsRead reading (Ok command) = reading ≡ Reading.Runs command
-AsRead reading (Err refusals.Unknown) = reading ≡ Reading.Unknown
-AsRead reading (Err (refusals.Arity text)) = (name : Bytes) × (reading ≡ Reading.Arity name) × (text ≡ errors.Arity name)
-AsRead reading (Err refusals.NoMemory) = Unit {0}
+-- the words are refused for this reason, or there was no memory to say so
+abbrev pub Refuses : Reading → Refusal → Type 0
+Refuses reading refusals.Unknown = reading ≡ Reading.Unknown
+Refuses reading (refusals.Arity text) = (name : Bytes) × (reading ≡ Reading.Arity name) × (text ≡ errors.Arity name)
+Refuses reading refusals.NoMemory = Unit {0}
+
+-- the answer says what the words say, and a command that they spell stands in its place
+abbrev pub AsRead : Reading → Result (Unit {0}) Refusal → Command → Type 0
+AsRead reading (Ok done) command = reading ≡ Reading.Runs command
+AsRead reading (Err refusal) command = Refuses reading refusal
 
 -- the words behind this name, read in its shape
-abbrev pub RowRead : Bytes → Option Command → Result Command Refusal → Type 0
-RowRead name command result = AsRead (counted name command) result
+abbrev pub RowRead : Bytes → Option Command → Result (Unit {0}) Refusal → Command → Type 0
+RowRead name spelled result command = AsRead (counted name spelled) result command
 
 -- words of the right count, which are this command
-abbrev pub CommandRead : Command → Result Command Refusal → Type 0
-CommandRead command result = AsRead (Reading.Runs command) result
+abbrev pub CommandRead : Command → Result (Unit {0}) Refusal → Command → Type 0
+CommandRead spelled result command = AsRead (Reading.Runs spelled) result command
 
 -- ---- pairs of words
 

@@ -15,82 +15,132 @@ use df_text::is_name;
 use std::alloc::Global;
 
 /// The words of a command that takes none.
-pub fn alone(alloc: Global, name: &str, op: &Alone, words: &[Bytes]) -> Result<Command, Refusal>
-    ensures { RowRead name.now (shape.alone (Command.Whole (op_of.alone op.now)) words.now) result }
+pub fn alone(
+    alloc: Global,
+    name: &str,
+    op: &Alone,
+    words: &[Bytes],
+    command: &mut Command,
+) -> Result<(), Refusal>
+    ensures { RowRead name.now (shape.alone (Command.Whole (op_of.alone op.now)) words.now) result command.new }
 {
     match words {
-        [] => Ok(Command::Whole(op.op())),
-        _ => arity(alloc, name),
+        [] => {
+            *command = Command::Whole(op.op());
+            Ok(())
+        }
+        _ => Err(arity(alloc, name)),
     }
 }
 
 /// The words behind the name: `[message]`.
-pub fn ping(alloc: Global, name: &str, words: &[Bytes]) -> Result<Command, Refusal>
-    ensures { RowRead name.now (shape.ping words.now) result }
+pub fn ping(
+    alloc: Global,
+    name: &str,
+    words: &[Bytes],
+    command: &mut Command,
+) -> Result<(), Refusal>
+    ensures { RowRead name.now (shape.ping words.now) result command.new }
 {
     match words {
-        [] => Ok(Command::Plain(PlainOp::Ping(None))),
+        [] => {
+            *command = Command::Plain(PlainOp::Ping(None));
+            Ok(())
+        }
         [message] => {
             let message = bin(alloc, message)?;
-            Ok(Command::Plain(PlainOp::Ping(Some(message))))
+            *command = Command::Plain(PlainOp::Ping(Some(message)));
+            Ok(())
         }
-        _ => arity(alloc, name),
+        _ => Err(arity(alloc, name)),
     }
 }
 
 /// The words behind the name: `message`.
-pub fn echo(alloc: Global, name: &str, words: &[Bytes]) -> Result<Command, Refusal>
-    ensures { RowRead name.now (shape.one_word (λ message. Command.Plain (PlainOp.Echo message)) words.now) result }
+pub fn echo(
+    alloc: Global,
+    name: &str,
+    words: &[Bytes],
+    command: &mut Command,
+) -> Result<(), Refusal>
+    ensures { RowRead name.now (shape.one_word (λ message. Command.Plain (PlainOp.Echo message)) words.now) result command.new }
 {
     match words {
         [message] => {
             let message = bin(alloc, message)?;
-            Ok(Command::Plain(PlainOp::Echo(message)))
+            *command = Command::Plain(PlainOp::Echo(message));
+            Ok(())
         }
-        _ => arity(alloc, name),
+        _ => Err(arity(alloc, name)),
     }
 }
 
 /// The number of a database: 0 alone.
-pub fn select(alloc: Global, name: &str, words: &[Bytes]) -> Result<Command, Refusal>
-    ensures { RowRead name.now (shape.one_word shape.select words.now) result }
+pub fn select(
+    alloc: Global,
+    name: &str,
+    words: &[Bytes],
+    command: &mut Command,
+) -> Result<(), Refusal>
+    ensures { RowRead name.now (shape.one_word shape.select words.now) result command.new }
 {
     match words {
         [word] => {
             let Some(number) = number(word) else {
-                return Ok(Command::Wrong(ErrorText::NotInteger));
+                *command = Command::Wrong(ErrorText::NotInteger);
+                return Ok(());
             };
             if number == 0 {
-                Ok(Command::Plain(PlainOp::Select(number)))
+                *command = Command::Plain(PlainOp::Select(number));
+                Ok(())
             } else {
-                Ok(Command::Wrong(ErrorText::DbIndex))
+                *command = Command::Wrong(ErrorText::DbIndex);
+                Ok(())
             }
         }
-        _ => arity(alloc, name),
+        _ => Err(arity(alloc, name)),
     }
 }
 
 /// The words behind the name: `pattern`.
-pub fn keys_like(alloc: Global, name: &str, words: &[Bytes]) -> Result<Command, Refusal>
-    ensures { RowRead name.now (shape.one_word (λ pattern. Command.Whole (WholeOp.Keys pattern)) words.now) result }
+pub fn keys_like(
+    alloc: Global,
+    name: &str,
+    words: &[Bytes],
+    command: &mut Command,
+) -> Result<(), Refusal>
+    ensures { RowRead name.now (shape.one_word (λ pattern. Command.Whole (WholeOp.Keys pattern)) words.now) result command.new }
 {
     match words {
         [pattern] => {
             let pattern = bin(alloc, pattern)?;
-            Ok(Command::Whole(WholeOp::Keys(pattern)))
+            *command = Command::Whole(WholeOp::Keys(pattern));
+            Ok(())
         }
-        _ => arity(alloc, name),
+        _ => Err(arity(alloc, name)),
     }
 }
 
 /// FLUSHALL and FLUSHDB. No count of words is refused, so one answer serves for any name.
-pub fn flush(op: &Flush, words: &[Bytes]) -> Result<Command, Refusal>
-    ensures { (name : List ℕ) → RowRead name (shape.flush (op_of.flush op.now) words.now) result }
+pub fn flush(op: &Flush, words: &[Bytes], command: &mut Command) -> Result<(), Refusal>
+    ensures { (name : List ℕ) → RowRead name (shape.flush (op_of.flush op.now) words.now) result command.new }
 {
     match words {
-        [] => Ok(Command::Whole(op.op())),
-        [word] if is_name(word.as_slice(), "async") => Ok(Command::Whole(op.op())),
-        [word] if is_name(word.as_slice(), "sync") => Ok(Command::Whole(op.op())),
-        _ => Ok(Command::Wrong(ErrorText::Syntax)),
+        [] => {
+            *command = Command::Whole(op.op());
+            Ok(())
+        }
+        [word] if is_name(word.as_slice(), "async") => {
+            *command = Command::Whole(op.op());
+            Ok(())
+        }
+        [word] if is_name(word.as_slice(), "sync") => {
+            *command = Command::Whole(op.op());
+            Ok(())
+        }
+        _ => {
+            *command = Command::Wrong(ErrorText::Syntax);
+            Ok(())
+        }
     }
 }

@@ -17,5 +17,5 @@ mod reader;
 mod refusal;
 mod table;
 
-pub use read::{read_command, read_linked};
+pub use read::{read_into, read_linked};
 pub use refusal::Refusal;

@@ -14,15 +14,22 @@ use df_model::{Command, ErrorText, ManyOp};
 use std::alloc::Global;
 
 /// key ..
-pub fn keys(alloc: Global, name: &str, op: &ManyKeys, words: &[Bytes]) -> Result<Command, Refusal>
-    ensures { RowRead name.now (shape.keys (op_of.keys op.now) words.now) result }
+pub fn keys(
+    alloc: Global,
+    name: &str,
+    op: &ManyKeys,
+    words: &[Bytes],
+    command: &mut Command,
+) -> Result<(), Refusal>
+    ensures { RowRead name.now (shape.keys (op_of.keys op.now) words.now) result command.new }
 {
     match words {
         [_, ..] => {
             let keys = bins(alloc, words)?;
-            Ok(Command::Many(op.op(keys)))
+            *command = Command::Many(op.op(keys));
+            Ok(())
         }
-        _ => arity(alloc, name),
+        _ => Err(arity(alloc, name)),
     }
 }
 
@@ -32,16 +39,18 @@ pub fn key_keys(
     name: &str,
     op: &KeyKeys,
     words: &[Bytes],
-) -> Result<Command, Refusal>
-    ensures { RowRead name.now (shape.key_keys (op_of.key_keys op.now) words.now) result }
+    command: &mut Command,
+) -> Result<(), Refusal>
+    ensures { RowRead name.now (shape.key_keys (op_of.key_keys op.now) words.now) result command.new }
 {
     match words {
         [target, keys @ ..] if !keys.is_empty() => {
             let target = bin(alloc, target)?;
             let keys = bins(alloc, keys)?;
-            Ok(Command::Many(op.op(target, keys)))
+            *command = Command::Many(op.op(target, keys));
+            Ok(())
         }
-        _ => arity(alloc, name),
+        _ => Err(arity(alloc, name)),
     }
 }
 
@@ -51,65 +60,88 @@ pub fn two_keys(
     name: &str,
     op: &TwoKeys,
     words: &[Bytes],
-) -> Result<Command, Refusal>
-    ensures { RowRead name.now (shape.two_keys (op_of.two_keys op.now) words.now) result }
+    command: &mut Command,
+) -> Result<(), Refusal>
+    ensures { RowRead name.now (shape.two_keys (op_of.two_keys op.now) words.now) result command.new }
 {
     match words {
         [source, target] => {
             let source = bin(alloc, source)?;
             let target = bin(alloc, target)?;
-            Ok(Command::Many(op.op(source, target)))
+            *command = Command::Many(op.op(source, target));
+            Ok(())
         }
-        _ => arity(alloc, name),
+        _ => Err(arity(alloc, name)),
     }
 }
 
 /// The words behind the name: `key key member`.
-pub fn smove(alloc: Global, name: &str, words: &[Bytes]) -> Result<Command, Refusal>
-    ensures { RowRead name.now (shape.two_keys_word ManyOp.Smove words.now) result }
+pub fn smove(
+    alloc: Global,
+    name: &str,
+    words: &[Bytes],
+    command: &mut Command,
+) -> Result<(), Refusal>
+    ensures { RowRead name.now (shape.two_keys_word ManyOp.Smove words.now) result command.new }
 {
     match words {
         [source, target, member] => {
             let source = bin(alloc, source)?;
             let target = bin(alloc, target)?;
             let member = bin(alloc, member)?;
-            Ok(Command::Many(ManyOp::Smove(source, target, member)))
+            *command = Command::Many(ManyOp::Smove(source, target, member));
+            Ok(())
         }
-        _ => arity(alloc, name),
+        _ => Err(arity(alloc, name)),
     }
 }
 
 /// The words behind the name: `key key LEFT or RIGHT LEFT or RIGHT`.
-pub fn lmove(alloc: Global, name: &str, words: &[Bytes]) -> Result<Command, Refusal>
-    ensures { RowRead name.now (shape.lmove words.now) result }
+pub fn lmove(
+    alloc: Global,
+    name: &str,
+    words: &[Bytes],
+    command: &mut Command,
+) -> Result<(), Refusal>
+    ensures { RowRead name.now (shape.lmove words.now) result command.new }
 {
     match words {
         [source, target, from, to] => {
             let Some(from) = side_of(from) else {
-                return Ok(Command::Wrong(ErrorText::Syntax));
+                *command = Command::Wrong(ErrorText::Syntax);
+                return Ok(());
             };
             let Some(to) = side_of(to) else {
-                return Ok(Command::Wrong(ErrorText::Syntax));
+                *command = Command::Wrong(ErrorText::Syntax);
+                return Ok(());
             };
             let source = bin(alloc, source)?;
             let target = bin(alloc, target)?;
-            Ok(Command::Many(ManyOp::Lmove(source, target, from, to)))
+            *command = Command::Many(ManyOp::Lmove(source, target, from, to));
+            Ok(())
         }
-        _ => arity(alloc, name),
+        _ => Err(arity(alloc, name)),
     }
 }
 
 /// MSET and MSETNX.
-pub fn pairs(alloc: Global, name: &str, op: &ManyPairs, words: &[Bytes]) -> Result<Command, Refusal>
-    ensures { RowRead name.now (shape.pairs name.now (op_of.pairs op.now) words.now) result }
+pub fn pairs(
+    alloc: Global,
+    name: &str,
+    op: &ManyPairs,
+    words: &[Bytes],
+    command: &mut Command,
+) -> Result<(), Refusal>
+    ensures { RowRead name.now (shape.pairs name.now (op_of.pairs op.now) words.now) result command.new }
 {
     match words {
         [_, _, ..] => {
             let Some(pairs) = pairs_of(alloc, words)? else {
-                return unpaired(alloc, name);
+                return unpaired(alloc, name, command);
             };
-            Ok(Command::Many(op.op(pairs)))
+            *command = Command::Many(op.op(pairs));
+            Ok(())
         }
-        _ => arity(alloc, name),
+        _ => Err(arity(alloc, name)),
     }
 }

@@ -14,15 +14,22 @@ use df_model::{Command, ErrorText, OneOp};
 use std::alloc::Global;
 
 /// The words behind the name: `key`.
-pub fn key(alloc: Global, name: &str, op: &Key, words: &[Bytes]) -> Result<Command, Refusal>
-    ensures { RowRead name.now (shape.key (op_of.key op.now) words.now) result }
+pub fn key(
+    alloc: Global,
+    name: &str,
+    op: &Key,
+    words: &[Bytes],
+    command: &mut Command,
+) -> Result<(), Refusal>
+    ensures { RowRead name.now (shape.key (op_of.key op.now) words.now) result command.new }
 {
     match words {
         [key] => {
             let key = bin(alloc, key)?;
-            Ok(Command::One(key, op.op()))
+            *command = Command::One(key, op.op());
+            Ok(())
         }
-        _ => arity(alloc, name),
+        _ => Err(arity(alloc, name)),
     }
 }
 
@@ -32,31 +39,39 @@ pub fn key_word(
     name: &str,
     op: &KeyWord,
     words: &[Bytes],
-) -> Result<Command, Refusal>
-    ensures { RowRead name.now (shape.key_word (op_of.key_word op.now) words.now) result }
+    command: &mut Command,
+) -> Result<(), Refusal>
+    ensures { RowRead name.now (shape.key_word (op_of.key_word op.now) words.now) result command.new }
 {
     match words {
         [key, word] => {
             let key = bin(alloc, key)?;
             let word = bin(alloc, word)?;
-            Ok(Command::One(key, op.op(word)))
+            *command = Command::One(key, op.op(word));
+            Ok(())
         }
-        _ => arity(alloc, name),
+        _ => Err(arity(alloc, name)),
     }
 }
 
 /// The words behind the name: `key field value`.
-pub fn hsetnx(alloc: Global, name: &str, words: &[Bytes]) -> Result<Command, Refusal>
-    ensures { RowRead name.now (shape.key_words OneOp.Hsetnx words.now) result }
+pub fn hsetnx(
+    alloc: Global,
+    name: &str,
+    words: &[Bytes],
+    command: &mut Command,
+) -> Result<(), Refusal>
+    ensures { RowRead name.now (shape.key_words OneOp.Hsetnx words.now) result command.new }
 {
     match words {
         [key, field, value] => {
             let key = bin(alloc, key)?;
             let field = bin(alloc, field)?;
             let value = bin(alloc, value)?;
-            Ok(Command::One(key, OneOp::Hsetnx(field, value)))
+            *command = Command::One(key, OneOp::Hsetnx(field, value));
+            Ok(())
         }
-        _ => arity(alloc, name),
+        _ => Err(arity(alloc, name)),
     }
 }
 
@@ -66,18 +81,21 @@ pub fn key_number(
     name: &str,
     op: &KeyNumber,
     words: &[Bytes],
-) -> Result<Command, Refusal>
-    ensures { RowRead name.now (shape.key_number (op_of.key_number op.now) words.now) result }
+    command: &mut Command,
+) -> Result<(), Refusal>
+    ensures { RowRead name.now (shape.key_number (op_of.key_number op.now) words.now) result command.new }
 {
     match words {
         [key, word] => {
             let Some(number) = number(word) else {
-                return Ok(Command::Wrong(ErrorText::NotInteger));
+                *command = Command::Wrong(ErrorText::NotInteger);
+                return Ok(());
             };
             let key = bin(alloc, key)?;
-            Ok(Command::One(key, op.op(number)))
+            *command = Command::One(key, op.op(number));
+            Ok(())
         }
-        _ => arity(alloc, name),
+        _ => Err(arity(alloc, name)),
     }
 }
 
@@ -87,12 +105,13 @@ pub fn key_numbers(
     name: &str,
     op: &KeyNumbers,
     words: &[Bytes],
-) -> Result<Command, Refusal>
-    ensures { RowRead name.now (shape.key_numbers (op_of.key_numbers op.now) words.now) result }
+    command: &mut Command,
+) -> Result<(), Refusal>
+    ensures { RowRead name.now (shape.key_numbers (op_of.key_numbers op.now) words.now) result command.new }
 {
     match words {
-        [key, from, to] => by_numbers(alloc, op, key, from, to),
-        _ => arity(alloc, name),
+        [key, from, to] => by_numbers(alloc, op, key, from, to, command),
+        _ => Err(arity(alloc, name)),
     }
 }
 
@@ -102,17 +121,21 @@ fn by_numbers(
     key: &Bytes,
     from: &Bytes,
     to: &Bytes,
-) -> Result<Command, Refusal>
-    ensures { CommandRead (shape.by_numbers (op_of.key_numbers op.now) key.now from.now to.now) result }
+    command: &mut Command,
+) -> Result<(), Refusal>
+    ensures { CommandRead (shape.by_numbers (op_of.key_numbers op.now) key.now from.now to.now) result command.new }
 {
     let Some(from) = number(from) else {
-        return Ok(Command::Wrong(ErrorText::NotInteger));
+        *command = Command::Wrong(ErrorText::NotInteger);
+        return Ok(());
     };
     let Some(to) = number(to) else {
-        return Ok(Command::Wrong(ErrorText::NotInteger));
+        *command = Command::Wrong(ErrorText::NotInteger);
+        return Ok(());
     };
     let key = bin(alloc, key)?;
-    Ok(Command::One(key, op.op(from, to)))
+    *command = Command::One(key, op.op(from, to));
+    Ok(())
 }
 
 /// The words behind the name: `key number word`.
@@ -121,12 +144,13 @@ pub fn key_number_word(
     name: &str,
     op: &KeyNumberWord,
     words: &[Bytes],
-) -> Result<Command, Refusal>
-    ensures { RowRead name.now (shape.key_number_word (op_of.key_number_word op.now) words.now) result }
+    command: &mut Command,
+) -> Result<(), Refusal>
+    ensures { RowRead name.now (shape.key_number_word (op_of.key_number_word op.now) words.now) result command.new }
 {
     match words {
-        [key, number, word] => by_number_word(alloc, op, key, number, word),
-        _ => arity(alloc, name),
+        [key, number, word] => by_number_word(alloc, op, key, number, word, command),
+        _ => Err(arity(alloc, name)),
     }
 }
 
@@ -136,36 +160,52 @@ fn by_number_word(
     key: &Bytes,
     digits: &Bytes,
     word: &Bytes,
-) -> Result<Command, Refusal>
-    ensures { CommandRead (shape.by_number_word (op_of.key_number_word op.now) key.now digits.now word.now) result }
+    command: &mut Command,
+) -> Result<(), Refusal>
+    ensures { CommandRead (shape.by_number_word (op_of.key_number_word op.now) key.now digits.now word.now) result command.new }
 {
     let Some(number) = number(digits) else {
-        return Ok(Command::Wrong(ErrorText::NotInteger));
+        *command = Command::Wrong(ErrorText::NotInteger);
+        return Ok(());
     };
     let key = bin(alloc, key)?;
     let word = bin(alloc, word)?;
-    Ok(Command::One(key, op.op(number, word)))
+    *command = Command::One(key, op.op(number, word));
+    Ok(())
 }
 
 /// The words behind the name: `key field number`.
-pub fn hincrby(alloc: Global, name: &str, words: &[Bytes]) -> Result<Command, Refusal>
-    ensures { RowRead name.now (shape.key_word_number OneOp.Hincrby words.now) result }
+pub fn hincrby(
+    alloc: Global,
+    name: &str,
+    words: &[Bytes],
+    command: &mut Command,
+) -> Result<(), Refusal>
+    ensures { RowRead name.now (shape.key_word_number OneOp.Hincrby words.now) result command.new }
 {
     match words {
-        [key, field, number] => hincrby_by(alloc, key, field, number),
-        _ => arity(alloc, name),
+        [key, field, number] => hincrby_by(alloc, key, field, number, command),
+        _ => Err(arity(alloc, name)),
     }
 }
 
-fn hincrby_by(alloc: Global, key: &Bytes, field: &Bytes, digits: &Bytes) -> Result<Command, Refusal>
-    ensures { CommandRead (shape.by_word_number OneOp.Hincrby key.now field.now digits.now) result }
+fn hincrby_by(
+    alloc: Global,
+    key: &Bytes,
+    field: &Bytes,
+    digits: &Bytes,
+    command: &mut Command,
+) -> Result<(), Refusal>
+    ensures { CommandRead (shape.by_word_number OneOp.Hincrby key.now field.now digits.now) result command.new }
 {
     let Some(number) = number(digits) else {
-        return Ok(Command::Wrong(ErrorText::NotInteger));
+        *command = Command::Wrong(ErrorText::NotInteger);
+        return Ok(());
     };
     let key = bin(alloc, key)?;
     let field = bin(alloc, field)?;
-    Ok(Command::One(key, OneOp::Hincrby(field, number)))
+    *command = Command::One(key, OneOp::Hincrby(field, number));
+    Ok(())
 }
 
 /// key word ..
@@ -174,94 +214,123 @@ pub fn key_many(
     name: &str,
     op: &KeyMany,
     words: &[Bytes],
-) -> Result<Command, Refusal>
-    ensures { RowRead name.now (shape.key_many (op_of.key_many op.now) words.now) result }
+    command: &mut Command,
+) -> Result<(), Refusal>
+    ensures { RowRead name.now (shape.key_many (op_of.key_many op.now) words.now) result command.new }
 {
     match words {
         [key, words @ ..] if !words.is_empty() => {
             let key = bin(alloc, key)?;
             let words = bins(alloc, words)?;
-            Ok(Command::One(key, op.op(words)))
+            *command = Command::One(key, op.op(words));
+            Ok(())
         }
-        _ => arity(alloc, name),
+        _ => Err(arity(alloc, name)),
     }
 }
 
 /// The words behind the name: `key at bytes`.
-pub fn setrange(alloc: Global, name: &str, words: &[Bytes]) -> Result<Command, Refusal>
-    ensures { RowRead name.now (shape.setrange words.now) result }
+pub fn setrange(
+    alloc: Global,
+    name: &str,
+    words: &[Bytes],
+    command: &mut Command,
+) -> Result<(), Refusal>
+    ensures { RowRead name.now (shape.setrange words.now) result command.new }
 {
     match words {
         [key, at, bytes] => {
             let Some(at) = number(at) else {
-                return Ok(Command::Wrong(ErrorText::NotInteger));
+                *command = Command::Wrong(ErrorText::NotInteger);
+                return Ok(());
             };
             if at < 0 {
-                return Ok(Command::Wrong(ErrorText::OffsetRange));
+                *command = Command::Wrong(ErrorText::OffsetRange);
+                return Ok(());
             }
             let key = bin(alloc, key)?;
             let bytes = bin(alloc, bytes)?;
-            Ok(Command::One(key, OneOp::Setrange(at, bytes)))
+            *command = Command::One(key, OneOp::Setrange(at, bytes));
+            Ok(())
         }
-        _ => arity(alloc, name),
+        _ => Err(arity(alloc, name)),
     }
 }
 
 /// LPOP and RPOP.
-pub fn pop(alloc: Global, name: &str, op: &Pop, words: &[Bytes]) -> Result<Command, Refusal>
-    ensures { RowRead name.now (shape.pop (op_of.pop op.now) words.now) result }
+pub fn pop(
+    alloc: Global,
+    name: &str,
+    op: &Pop,
+    words: &[Bytes],
+    command: &mut Command,
+) -> Result<(), Refusal>
+    ensures { RowRead name.now (shape.pop (op_of.pop op.now) words.now) result command.new }
 {
     match words {
         [key] => {
             let key = bin(alloc, key)?;
-            Ok(Command::One(key, op.op(None)))
+            *command = Command::One(key, op.op(None));
+            Ok(())
         }
         [key, count] => {
             let Some(count) = number(count) else {
-                return Ok(Command::Wrong(ErrorText::NotInteger));
+                *command = Command::Wrong(ErrorText::NotInteger);
+                return Ok(());
             };
             if count < 0 {
-                return Ok(Command::Wrong(ErrorText::NotInteger));
+                *command = Command::Wrong(ErrorText::NotInteger);
+                return Ok(());
             }
             let key = bin(alloc, key)?;
-            Ok(Command::One(key, op.op(Some(count))))
+            *command = Command::One(key, op.op(Some(count)));
+            Ok(())
         }
-        _ => arity(alloc, name),
+        _ => Err(arity(alloc, name)),
     }
 }
 
 /// The words behind the name: `key value [NX] [XX]`.
-pub fn set(alloc: Global, name: &str, words: &[Bytes]) -> Result<Command, Refusal>
-    ensures { RowRead name.now (shape.set words.now) result }
+pub fn set(alloc: Global, name: &str, words: &[Bytes], command: &mut Command) -> Result<(), Refusal>
+    ensures { RowRead name.now (shape.set words.now) result command.new }
 {
     match words {
         [key, bytes, options @ ..] => {
             let Some(guard) = guards(options) else {
-                return Ok(Command::Wrong(ErrorText::Syntax));
+                *command = Command::Wrong(ErrorText::Syntax);
+                return Ok(());
             };
             let key = bin(alloc, key)?;
             let bytes = bin(alloc, bytes)?;
-            Ok(Command::One(key, OneOp::Set(bytes, guard)))
+            *command = Command::One(key, OneOp::Set(bytes, guard));
+            Ok(())
         }
-        _ => arity(alloc, name),
+        _ => Err(arity(alloc, name)),
     }
 }
 
 /// The words behind the name: `key BEFORE or AFTER pivot value`.
-pub fn linsert(alloc: Global, name: &str, words: &[Bytes]) -> Result<Command, Refusal>
-    ensures { RowRead name.now (shape.linsert words.now) result }
+pub fn linsert(
+    alloc: Global,
+    name: &str,
+    words: &[Bytes],
+    command: &mut Command,
+) -> Result<(), Refusal>
+    ensures { RowRead name.now (shape.linsert words.now) result command.new }
 {
     match words {
         [key, place, pivot, bytes] => {
             let Some(beside) = beside_of(place) else {
-                return Ok(Command::Wrong(ErrorText::Syntax));
+                *command = Command::Wrong(ErrorText::Syntax);
+                return Ok(());
             };
             let key = bin(alloc, key)?;
             let pivot = bin(alloc, pivot)?;
             let bytes = bin(alloc, bytes)?;
-            Ok(Command::One(key, OneOp::Linsert(beside, pivot, bytes)))
+            *command = Command::One(key, OneOp::Linsert(beside, pivot, bytes));
+            Ok(())
         }
-        _ => arity(alloc, name),
+        _ => Err(arity(alloc, name)),
     }
 }
 
@@ -271,12 +340,13 @@ pub fn key_pairs(
     name: &str,
     op: &KeyPairs,
     words: &[Bytes],
-) -> Result<Command, Refusal>
-    ensures { RowRead name.now (shape.key_pairs name.now (op_of.key_pairs op.now) words.now) result }
+    command: &mut Command,
+) -> Result<(), Refusal>
+    ensures { RowRead name.now (shape.key_pairs name.now (op_of.key_pairs op.now) words.now) result command.new }
 {
     match words {
-        [key, words @ ..] if words.len() > 1 => by_pairs(alloc, name, op, key, words),
-        _ => arity(alloc, name),
+        [key, words @ ..] if words.len() > 1 => by_pairs(alloc, name, op, key, words, command),
+        _ => Err(arity(alloc, name)),
     }
 }
 
@@ -286,12 +356,14 @@ fn by_pairs(
     op: &KeyPairs,
     key: &Bytes,
     words: &[Bytes],
-) -> Result<Command, Refusal>
-    ensures { CommandRead (shape.by_pairs name.now (op_of.key_pairs op.now) key.now words.now) result }
+    command: &mut Command,
+) -> Result<(), Refusal>
+    ensures { CommandRead (shape.by_pairs name.now (op_of.key_pairs op.now) key.now words.now) result command.new }
 {
     let Some(pairs) = pairs_of(alloc, words)? else {
-        return unpaired(alloc, name);
+        return unpaired(alloc, name, command);
     };
     let key = bin(alloc, key)?;
-    Ok(Command::One(key, op.op(pairs)))
+    *command = Command::One(key, op.op(pairs));
+    Ok(())
 }

@@ -49,35 +49,41 @@ pub enum Reader {
 
 impl Reader {
     /// The command of this name and shape.
-    pub fn read(&self, alloc: Global, name: &str, words: &[Bytes]) -> Result<Command, Refusal>
-        ensures { RowRead name.now (shape_of self.now name.now words.now) result }
+    pub fn read(
+        &self,
+        alloc: Global,
+        name: &str,
+        words: &[Bytes],
+        command: &mut Command,
+    ) -> Result<(), Refusal>
+        ensures { RowRead name.now (shape_of self.now name.now words.now) result command.new }
     {
         match self {
-            Reader::Alone(op) => alone(alloc, name, op, words),
-            Reader::Ping => ping(alloc, name, words),
-            Reader::Echo => echo(alloc, name, words),
-            Reader::Select => select(alloc, name, words),
-            Reader::KeysLike => keys_like(alloc, name, words),
-            Reader::Flush(op) => flush(op, words),
-            Reader::Key(op) => key(alloc, name, op, words),
-            Reader::KeyWord(op) => key_word(alloc, name, op, words),
-            Reader::KeyNumber(op) => key_number(alloc, name, op, words),
-            Reader::KeyNumbers(op) => key_numbers(alloc, name, op, words),
-            Reader::KeyNumberWord(op) => key_number_word(alloc, name, op, words),
-            Reader::KeyMany(op) => key_many(alloc, name, op, words),
-            Reader::Pop(op) => pop(alloc, name, op, words),
-            Reader::KeyPairs(op) => key_pairs(alloc, name, op, words),
-            Reader::Set => set(alloc, name, words),
-            Reader::Setrange => setrange(alloc, name, words),
-            Reader::Hsetnx => hsetnx(alloc, name, words),
-            Reader::Hincrby => hincrby(alloc, name, words),
-            Reader::Linsert => linsert(alloc, name, words),
-            Reader::ManyKeys(op) => keys(alloc, name, op, words),
-            Reader::KeyKeys(op) => key_keys(alloc, name, op, words),
-            Reader::TwoKeys(op) => two_keys(alloc, name, op, words),
-            Reader::ManyPairs(op) => pairs(alloc, name, op, words),
-            Reader::Smove => smove(alloc, name, words),
-            Reader::Lmove => lmove(alloc, name, words),
+            Reader::Alone(op) => alone(alloc, name, op, words, command),
+            Reader::Ping => ping(alloc, name, words, command),
+            Reader::Echo => echo(alloc, name, words, command),
+            Reader::Select => select(alloc, name, words, command),
+            Reader::KeysLike => keys_like(alloc, name, words, command),
+            Reader::Flush(op) => flush(op, words, command),
+            Reader::Key(op) => key(alloc, name, op, words, command),
+            Reader::KeyWord(op) => key_word(alloc, name, op, words, command),
+            Reader::KeyNumber(op) => key_number(alloc, name, op, words, command),
+            Reader::KeyNumbers(op) => key_numbers(alloc, name, op, words, command),
+            Reader::KeyNumberWord(op) => key_number_word(alloc, name, op, words, command),
+            Reader::KeyMany(op) => key_many(alloc, name, op, words, command),
+            Reader::Pop(op) => pop(alloc, name, op, words, command),
+            Reader::KeyPairs(op) => key_pairs(alloc, name, op, words, command),
+            Reader::Set => set(alloc, name, words, command),
+            Reader::Setrange => setrange(alloc, name, words, command),
+            Reader::Hsetnx => hsetnx(alloc, name, words, command),
+            Reader::Hincrby => hincrby(alloc, name, words, command),
+            Reader::Linsert => linsert(alloc, name, words, command),
+            Reader::ManyKeys(op) => keys(alloc, name, op, words, command),
+            Reader::KeyKeys(op) => key_keys(alloc, name, op, words, command),
+            Reader::TwoKeys(op) => two_keys(alloc, name, op, words, command),
+            Reader::ManyPairs(op) => pairs(alloc, name, op, words, command),
+            Reader::Smove => smove(alloc, name, words, command),
+            Reader::Lmove => lmove(alloc, name, words, command),
         }
     }
 }

@@ -1,7 +1,8 @@
 //! Why words are no command.
 
-ghost use Rattle.std.specs.Prelude.{◌≡◌, None};
-ghost use Rattle.df_parse.specs.Reading.{CommandRead, RowRead};
+ghost use Rattle.std.specs.Prelude.{◌≡◌};
+ghost use Rattle.df_model.specs.Reads.{Reading};
+ghost use Rattle.df_parse.specs.Reading.{CommandRead, Refuses};
 ghost use Rattle.df_parse.specs.declared.refusal.Refusal.TheVariants as refusals;
 
 use df_model::{Bin, Command, ErrorText, NoMemory};
@@ -27,17 +28,20 @@ impl From<NoMemory> for Refusal {
 }
 
 /// Refuses the count of words of the command with this name.
-pub fn arity(alloc: Global, name: &str) -> Result<Command, Refusal>
-    ensures { RowRead name.now None result }
+pub fn arity(alloc: Global, name: &str) -> Refusal
+    ensures { Refuses (Reading.Arity name.now) result }
 {
-    let name = Bin::from_slice(alloc, name.as_bytes())?;
-    Err(Refusal::Arity(ErrorText::Arity(name)))
+    match Bin::from_slice(alloc, name.as_bytes()) {
+        Ok(name) => Refusal::Arity(ErrorText::Arity(name)),
+        Err(_) => Refusal::NoMemory,
+    }
 }
 
 /// The command that answers a word without its partner. A transaction queues it, so this is no refusal.
-pub fn unpaired(alloc: Global, name: &str) -> Result<Command, Refusal>
-    ensures { CommandRead (Command.Wrong (ErrorText.Arity name.now)) result }
+pub fn unpaired(alloc: Global, name: &str, command: &mut Command) -> Result<(), Refusal>
+    ensures { CommandRead (Command.Wrong (ErrorText.Arity name.now)) result command.new }
 {
     let name = Bin::from_slice(alloc, name.as_bytes())?;
-    Ok(Command::Wrong(ErrorText::Arity(name)))
+    *command = Command::Wrong(ErrorText::Arity(name));
+    Ok(())
 }

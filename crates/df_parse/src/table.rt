@@ -156,10 +156,21 @@ enum Initial {
 }
 
 /// The command of this name with these words behind it.
-pub fn read_row(alloc: Global, name: &[u8], words: &[Bytes]) -> Result<Command, Refusal>
-    ensures { AsRead (reads_by reads.rows name.now words.now) result }
+pub fn read_row(
+    alloc: Global,
+    name: &[u8],
+    words: &[Bytes],
+    command: &mut Command,
+) -> Result<(), Refusal>
+    ensures { AsRead (reads_by reads.rows name.now words.now) result command.new }
 {
-    read_in(alloc, rows_of(name.len(), initial_of(name)), name, words)
+    read_in(
+        alloc,
+        rows_of(name.len(), initial_of(name)),
+        name,
+        words,
+        command,
+    )
 }
 
 #[tactic(auto, using(crate::proofs::PartLaws::another))]
@@ -228,12 +239,13 @@ fn read_in(
     mut rows: &[(&str, Reader)],
     name: &[u8],
     words: &[Bytes],
-) -> Result<Command, Refusal>
-    ensures { AsRead (reads_by (map (λ r. row r.0.now (shape_of r.1 r.0.now)) rows.entry.now) name.now words.now) result }
+    command: &mut Command,
+) -> Result<(), Refusal>
+    ensures { AsRead (reads_by (map (λ r. row r.0.now (shape_of r.1 r.0.now)) rows.entry.now) name.now words.now) result command.new }
 {
     'rows: while let [row, rest @ ..] = rows {
         if is_name(name, row.0) {
-            return row.1.read(alloc, row.0, words);
+            return row.1.read(alloc, row.0, words, command);
         }
         rows = rest;
     }

@@ -58,7 +58,7 @@ impl<L: Link> Seat<L, Desk> {
         ensures { Sits result id (L.flow link) }
     {
         Seat {
-            conn: Conn::new(alloc, id, link, Desk::new(alloc)),
+            conn: Conn::new(alloc, id, link, Desk::new()),
         }
     }
 

@@ -12,4 +12,4 @@ returns-in-Ok c =
     let after = c.run_command.new.table.keys in
     let reply = c.run_command.new.reply in
     let ran : c.new.result ≡ told_on call marks K = c.new.ensures ∙ ap (λ t. told_on call marks t.keys) c.of-before.ensures in
-    single_given call c.args.command marks K after c.new.result reply c.requires ran c.in-Ok.ensures.ok
+    single_given call c.args.command.now marks K after c.new.result reply c.requires ran c.in-Ok.ensures.ok

@@ -1,8 +1,8 @@
-use Rattle.std.proofs.Common.{refl, sym, subst}
+use Rattle.std.proofs.Common.{refl, sym, subst, ◌∙◌}
 use Rattle.df_model.specs.Words.{Words}
 use Rattle.df_resp.specs.Next.{Gives}
 use Rattle.df_resp.specs.declared.reader.Next.TheVariants as next
-use Rattle.df_conn.specs.Answers.{IsAnswer}
+use Rattle.df_conn.specs.Answers.{TookWords}
 use Rattle.df_conn.specs.Talks.{Took}
 use Rattle.df_conn.proofs.TakeLaws.{took_words, took_none, took_bad, took_no_memory}
 use Rattle.df_conn.proofs.talk.Talk.take.Goals as goal
@@ -11,15 +11,14 @@ pub returns-in-Ok-Words : goal.returns-in-Ok-Words
 returns-in-Ok-Words c =
     let old = c.args.self.now in
     let stream = c.next.new.self in
-    let state = c.take_words-answer.new.state in
-    let output = c.take_words-answer.new.output in
+    let after = c.take_words-taken.new.self in
+    let taken = c.take_words-taken.result in
     let words : Words = c.in-Ok-Words.words.items in
-    let is : IsAnswer c.take_words-answer.result words old.state state old.output.items output.items =
-    subst (λ w. IsAnswer c.take_words-answer.result w old.state state old.output.items output.items) c.as_slice.ensures.value c.take_words-answer.ensures in
-    subst (λ r. Took c.taken_by.result old.sent old.sent old.state state old.reader r old.output.items output.items) (sym c.give_back.ensures)
-    (subst (λ t. Took t old.sent old.sent old.state state old.reader stream old.output.items output.items) (sym c.taken_by.ensures)
-    (took_words c.take_words-answer.result words old.sent old.sent old.state state old.reader stream old.output.items output.items refl
-    (λ good. subst (λ x. Gives x old.reader stream) c.in-Ok-Words.field-0-is (c.in-Ok-Words.ensures.ok good)) c.next.ensures.count is))
+    let is : TookWords taken words old.state after.state old.output.items after.output.items =
+    subst (λ w. TookWords taken w old.state after.state old.output.items after.output.items) c.as_slice.ensures.value c.take_words-taken.ensures.took in
+    subst (λ r. Took taken old.sent after.sent old.state after.state old.reader r old.output.items after.output.items) (sym (c.give_back.ensures ∙ c.take_words-taken.ensures.reader))
+    (took_words taken words old.sent after.sent old.state after.state old.reader stream old.output.items after.output.items c.take_words-taken.ensures.sent
+    (λ good. subst (λ x. Gives x old.reader stream) c.in-Ok-Words.field-0-is (c.in-Ok-Words.ensures.ok good)) c.next.ensures.count is)
 
 pub returns-in-Ok-NeedMore : goal.returns-in-Ok-NeedMore
 returns-in-Ok-NeedMore c =

@@ -9,6 +9,6 @@ returns c =
     let d = c.self.inside in
     let K = c.args.table.now.keys in
     let after = c.served.new.table.keys in
-    let h = subst (λ p. HasServed c.served.result p K after d.reply c.served.new.reply) c.replace-place.ensures.value c.served.ensures in
+    let h = subst (λ p. HasServed c.served.result p K after) c.replace-place.ensures.value c.served.ensures in
     subst (λ (s : DeskState). Served s (at_place d.answered d.stalls c.served.result) K after) c.self.view_is
-    (served_state d.answered d.stalls c.served.result d.place K after d.reply c.served.new.reply h)
+    (served_state d.answered d.stalls c.served.result d.place K after h)
