@@ -32,7 +32,7 @@ spends_same None (Some y) c n s t = absurd s
 spends_same (Some x) None c n s t = absurd s
 spends_same (Some x) (Some y) None n s t = absurd t
 
-rose_since : (first old now : ℕ) → first ≤ old → Rose old now → Rose first now
+pub rose_since : (first old now : ℕ) → first ≤ old → Rose old now → Rose first now
 rose_since first old now le rose = grind (arith, common_steps)
 
 -- a read failed
@@ -43,7 +43,7 @@ proven_read_fault first old now output sent f stays rose = (rose_since first.rea
 pub proven_write_fault : (first old now : Flow) (output : Bytes) (sent : ℕ) (f : Flows first old output sent) → Rose old.write_faults now.write_faults → Proven ends.WriteFault f.bytes first now
 proven_write_fault first old now output sent f rose = rose_since first.write_faults old.write_faults now.write_faults f.write_faults rose
 
--- an end that the input asks for looks at no link
+-- an end for which nothing has to happen looks at no link
 pub proven_itself : (why : Why) (bytes : Bytes) (first old now : Flow) → EndsItself why → Proven why bytes first old → Proven why bytes first now
 proven_itself ends.Quit bytes first old now e p = tt
 proven_itself ends.Asked bytes first old now e p = tt
@@ -52,6 +52,6 @@ proven_itself ends.InputEnd bytes first old now e p = absurd e
 proven_itself ends.Stopped bytes first old now e p = absurd e
 proven_itself ends.ReadFault bytes first old now e p = absurd e
 proven_itself ends.WriteFault bytes first old now e p = absurd e
-proven_itself ends.TooMany bytes first old now e p = absurd e
+proven_itself ends.TooMany bytes first old now e p = tt
 proven_itself ends.Spent bytes first old now e p = absurd e
 proven_itself ends.NoMemory bytes first old now e p = absurd e

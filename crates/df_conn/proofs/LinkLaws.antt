@@ -1,5 +1,5 @@
 -- What each answer of the link makes of a connection.
-use Rattle.std.proofs.Common.{◌≡◌, ◌⊎◌, inl, inr, ℕ, ◌+◌, ◌-◌, ◌<◌, ◌≤◌, Bool, true, [], ◌∷◌, ◌++◌, length, take, drop, refl, sym, ap, subst, ◌∙◌, arith, append_assoc, append-nil, length-append, take-append-drop}
+use Rattle.std.proofs.Common.{◌≡◌, ◌⊎◌, inl, inr, ℕ, ◌+◌, ◌-◌, ◌<◌, ◌≤◌, Bool, true, List, [], ◌∷◌, ◌++◌, length, take, drop, refl, sym, ap, subst, ◌∙◌, arith, append_assoc, append-nil, length-append, take-append-drop}
 use Rattle.std.specs.Prelude.{None, Result, Ok, Err, OnOk, is_err, false}
 use Rattle.std.specs.Io.KnownBytes.{Appends}
 use Rattle.std.proofs.KnownBytes.{Appends-trans}
@@ -16,18 +16,18 @@ use Rattle.df_model.specs.declared.session.Why.TheVariants as ends
 use Rattle.df_outside.specs.Faults.{Rose}
 use Rattle.df_outside.specs.Links.{Flow, TookIn, PutOut, Spends}
 use Rattle.df_resp.specs.Stream.{Stream, Counts}
-use Rattle.df_caller.specs.Told.{told_items}
-use Rattle.df_conn.specs.Walked.{Walked}
+use Rattle.df_caller.specs.Told.{Told, told_items}
+use Rattle.df_conn.specs.Walked.{Walked, Closes}
 use Rattle.df_conn.specs.Talks.{Stands, IsDry, Passed}
-use Rattle.df_conn.specs.Turns.{Sight, At, Flows, Going, IsGoing, IsWriting, Moves, Stalls, Sinks, rank, waiting, Causes, Turned, Proven, EndsItself, session_of}
+use Rattle.df_conn.specs.Turns.{Sight, At, Flows, Going, IsGoing, IsWriting, Moves, Stalls, Sinks, rank, waiting, Causes, Turned, TurnedAway, TurnsAway, Proven, EndsItself, ClosesAs, cut_at, cut_off, session_of}
 use Rattle.df_conn.specs.declared.conn.Stage.{Stage}
 use Rattle.df_conn.specs.declared.conn.Stage.TheVariants as stages
 use Rattle.df_resp.proofs.CountLaws.{no_longer}
-use Rattle.df_conn.proofs.FlowLaws.{spends_more, spends_same, proven_itself}
+use Rattle.df_conn.proofs.FlowLaws.{spends_more, spends_same, proven_itself, rose_since}
 use Rattle.df_conn.proofs.TurnLaws.{front_is, at_stage}
 use Rattle.df_conn.proofs.WalkLaws.{walked_more}
 use Rattle.df_model.proofs.FramingLaws.{splits_join}
-use Rattle.df_conn.proofs.SpeakLaws.{cuts_may, spoke_stopped, spoke_cut, spoke_closed, speaks_done, spoke_front}
+use Rattle.df_conn.proofs.SpeakLaws.{cuts_may, spoke_stopped, spoke_cut, spoke_closed, spoke_away, speaks_done, spoke_front}
 
 -- ---- writes
 
@@ -150,42 +150,172 @@ put_waits stopping s now g w p rose none =
       inl (rose, none),
     )
 
--- an end that may cut off what waits
-spoke_from : (x : Stage) (s : Sight) (why : Why) (bytes said wrote unsent : Bytes) → IsWriting x → CutsOff why → At x s bytes said wrote → said ≡ wrote ++ unsent → (s.calling.under ≡ None) × Spoke (session_of s.id why bytes wrote) (told_items s.calling.told)
-spoke_from stages.Open s why bytes said wrote unsent w cuts at front = (at.0, spoke_stopped s.id why bytes wrote said unsent s.calling.told s.state s.stream.rest at.1.walked (cuts_may why cuts) front)
-spoke_from (stages.Closing asked) s why bytes said wrote unsent w cuts at front = (at.0, spoke_cut s.id asked why bytes wrote said unsent s.calling.told at.1 cuts front)
-spoke_from stages.Calling s why bytes said wrote unsent w cuts at front = absurd w
-spoke_from (stages.Over over) s why bytes said wrote unsent w cuts at front = absurd w
+-- no session that is turned away closes as the others do
+abbrev IsPlain : Why → Type 0
+IsPlain ends.InputEnd = Unit {0}
+IsPlain ends.Quit = Unit {0}
+IsPlain ends.Asked = Unit {0}
+IsPlain ends.Stopped = Unit {0}
+IsPlain (ends.Protocol kind at) = Unit {0}
+IsPlain ends.ReadFault = Unit {0}
+IsPlain ends.WriteFault = Unit {0}
+IsPlain ends.TooMany = ⊥
+IsPlain ends.Spent = Unit {0}
+IsPlain ends.NoMemory = Unit {0}
 
-pub put_ends : (stopping : Bool) (why : Why) (s : Sight) (now : Flow) → Going s → IsWriting s.stage → CutsOff why → PutOut s.flow now [] → ((f : Flows s.first s.flow s.output s.sent) → Proven why f.bytes s.first now) → Causes why stopping s (record s { stage = stages.Over why; flow = now })
-    → Turned (turns.Ended why) stopping s (record s { stage = stages.Over why; flow = now })
-put_ends stopping why s now g w cuts p proven causes =
+closes_plainly : (why : Why) (id : ℕ) (bytes said : Bytes) (told : List Told) → IsPlain why → ClosesAs why id bytes said told → Closes why bytes said told
+closes_plainly ends.InputEnd id bytes said told plain c = c
+closes_plainly ends.Quit id bytes said told plain c = c
+closes_plainly ends.Asked id bytes said told plain c = c
+closes_plainly ends.Stopped id bytes said told plain c = c
+closes_plainly (ends.Protocol kind at) id bytes said told plain c = c
+closes_plainly ends.ReadFault id bytes said told plain c = c
+closes_plainly ends.WriteFault id bytes said told plain c = c
+closes_plainly ends.TooMany id bytes said told plain c = absurd plain
+closes_plainly ends.Spent id bytes said told plain c = c
+closes_plainly ends.NoMemory id bytes said told plain c = c
+
+abbrev IsPlainAt : Stage → Type 0
+IsPlainAt stages.Open = Unit {0}
+IsPlainAt stages.Calling = Unit {0}
+IsPlainAt (stages.Closing why) = IsPlain why
+IsPlainAt (stages.Over why) = Unit {0}
+
+-- an end that may cut off what waits
+spoke_from : (x : Stage) (s : Sight) (why : Why) (bytes said wrote unsent : Bytes) → IsWriting x → IsPlainAt x → CutsOff why → At x s bytes said wrote → said ≡ wrote ++ unsent → (s.calling.under ≡ None) × Spoke (session_of s.id why bytes wrote) (told_items s.calling.told)
+spoke_from stages.Open s why bytes said wrote unsent w plain cuts at front = (at.0, spoke_stopped s.id why bytes wrote said unsent s.calling.told s.state s.stream.rest at.1.walked (cuts_may why cuts) front)
+spoke_from (stages.Closing asked) s why bytes said wrote unsent w plain cuts at front = (at.0, spoke_cut s.id asked why bytes wrote said unsent s.calling.told (closes_plainly asked s.id bytes said s.calling.told plain at.1) cuts front)
+spoke_from stages.Calling s why bytes said wrote unsent w plain cuts at front = absurd w
+spoke_from (stages.Over over) s why bytes said wrote unsent w plain cuts at front = absurd w
+
+put_ends : (stopping : Bool) (why : Why) (s : Sight) (now : Flow) (x : Stage) → s.stage ≡ x → IsPlainAt x → Going s → IsWriting s.stage → CutsOff why → PutOut s.flow now [] → ((f : Flows s.first s.flow s.output s.sent) → Proven why f.bytes s.first now)
+    → Causes why stopping s (record s { stage = stages.Over why; flow = now }) → Turned (turns.Ended why) stopping s (record s { stage = stages.Over why; flow = now })
+put_ends stopping why s now x is plain g w cuts p proven causes =
     let f = g.flows in
-    let spoke = spoke_from s.stage s why f.bytes f.said f.wrote (drop s.sent s.output) w cuts g.at (front_is s.first s.flow s.output s.sent f) in
+    let spoke = spoke_from s.stage s why f.bytes f.said f.wrote (drop s.sent s.output) w (subst IsPlainAt (sym is) plain) cuts g.at (front_is s.first s.flow s.output s.sent f) in
     (record { flows = wrote_none s.first s.flow now s.output s.sent f p; at = (spoke.0, spoke.1, proven f) }, refl, causes)
+
+-- one that is turned away can't go on writing
+put_away : (stopping : Bool) (s : Sight) (now : Flow) → s.stage ≡ stages.Closing ends.TooMany → Going s → PutOut s.flow now [] → Rose s.flow.write_faults now.write_faults ⊎ (stopping ≡ true)
+    → Turned (turns.Ended ends.TooMany) stopping s (record s { stage = stages.Over ends.TooMany; flow = now })
+put_away stopping s now is g p how =
+    let f = g.flows in
+    let after = wrote_none s.first s.flow now s.output s.sent f p in
+    let at : At (stages.Closing ends.TooMany) s f.bytes f.said f.wrote = at_stage s (stages.Closing ends.TooMany) f.bytes f.said f.wrote is g.at in
+    let a : TurnsAway s.id f.bytes f.said s.calling.told = at.1 in (
+      record {
+        flows = after;
+        at = (at.0, spoke_away s.id ends.TooMany f.bytes f.wrote f.said (drop s.sent s.output) s.calling.told a (inl refl) (λ all. absurd all) (front_is s.first s.flow s.output s.sent f), tt);
+      },
+      refl,
+      record {
+        late = a.late;
+        took = subst (Appends s.first.taken now.taken) a.nothing after.taken;
+        said = inr (elim how [
+          | inl rose ↦ inl (rose_since s.first.write_faults s.flow.write_faults now.write_faults f.write_faults rose)
+          | inr halts ↦ inr halts
+        ]);
+      },
+    )
+
+abbrev Cuts : Why → Bool → Sight → Flow → Type 0
+Cuts why stopping s now = Turned (turns.Ended why) stopping s (record s { stage = stages.Over why; flow = now })
+
+cut_closing : (stopping : Bool) (why : Why) (s : Sight) (now : Flow) (closing : Why) → s.stage ≡ stages.Closing closing → Going s → IsWriting s.stage → CutsOff why → PutOut s.flow now [] → ((f : Flows s.first s.flow s.output s.sent) → Proven why f.bytes s.first now)
+    → Causes why stopping s (record s { stage = stages.Over why; flow = now }) → Rose s.flow.write_faults now.write_faults ⊎ (stopping ≡ true) → Cuts (cut_off closing why) stopping s now
+cut_closing stopping why s now ends.InputEnd is g w cuts p proven causes how = put_ends stopping why s now (stages.Closing ends.InputEnd) is tt g w cuts p proven causes
+cut_closing stopping why s now ends.Quit is g w cuts p proven causes how = put_ends stopping why s now (stages.Closing ends.Quit) is tt g w cuts p proven causes
+cut_closing stopping why s now ends.Asked is g w cuts p proven causes how = put_ends stopping why s now (stages.Closing ends.Asked) is tt g w cuts p proven causes
+cut_closing stopping why s now ends.Stopped is g w cuts p proven causes how = put_ends stopping why s now (stages.Closing ends.Stopped) is tt g w cuts p proven causes
+cut_closing stopping why s now (ends.Protocol kind at) is g w cuts p proven causes how = put_ends stopping why s now (stages.Closing (ends.Protocol kind at)) is tt g w cuts p proven causes
+cut_closing stopping why s now ends.ReadFault is g w cuts p proven causes how = put_ends stopping why s now (stages.Closing ends.ReadFault) is tt g w cuts p proven causes
+cut_closing stopping why s now ends.WriteFault is g w cuts p proven causes how = put_ends stopping why s now (stages.Closing ends.WriteFault) is tt g w cuts p proven causes
+cut_closing stopping why s now ends.TooMany is g w cuts p proven causes how = put_away stopping s now is g p how
+cut_closing stopping why s now ends.Spent is g w cuts p proven causes how = put_ends stopping why s now (stages.Closing ends.Spent) is tt g w cuts p proven causes
+cut_closing stopping why s now ends.NoMemory is g w cuts p proven causes how = put_ends stopping why s now (stages.Closing ends.NoMemory) is tt g w cuts p proven causes
+
+cut_from : (stopping : Bool) (why : Why) (s : Sight) (now : Flow) (x : Stage) → s.stage ≡ x → Going s → IsWriting s.stage → CutsOff why → PutOut s.flow now [] → ((f : Flows s.first s.flow s.output s.sent) → Proven why f.bytes s.first now)
+    → Causes why stopping s (record s { stage = stages.Over why; flow = now }) → Rose s.flow.write_faults now.write_faults ⊎ (stopping ≡ true) → Cuts (cut_at x why) stopping s now
+cut_from stopping why s now stages.Open is g w cuts p proven causes how = put_ends stopping why s now stages.Open is tt g w cuts p proven causes
+cut_from stopping why s now stages.Calling is g w cuts p proven causes how = put_ends stopping why s now stages.Calling is tt g w cuts p proven causes
+cut_from stopping why s now (stages.Closing closing) is g w cuts p proven causes how = cut_closing stopping why s now closing is g w cuts p proven causes how
+cut_from stopping why s now (stages.Over over) is g w cuts p proven causes how = put_ends stopping why s now (stages.Over over) is tt g w cuts p proven causes
+
+-- a write failed, or had to wait where all sessions are to end
+pub put_cut : (stopping : Bool) (why end : Why) (s : Sight) (now : Flow) → end ≡ cut_at s.stage why → Going s → IsWriting s.stage → CutsOff why → PutOut s.flow now [] → ((f : Flows s.first s.flow s.output s.sent) → Proven why f.bytes s.first now)
+    → Causes why stopping s (record s { stage = stages.Over why; flow = now }) → Rose s.flow.write_faults now.write_faults ⊎ (stopping ≡ true) → Cuts end stopping s now
+put_cut stopping why end s now is g w cuts p proven causes how = subst (λ e. Cuts e stopping s now) (sym is) (cut_from stopping why s now s.stage refl g w cuts p proven causes how)
+
+-- there was no memory for a write
+none_away : (stopping : Bool) (s : Sight) (now : Flow) → s.stage ≡ stages.Closing ends.TooMany → Going s → PutOut s.flow now [] → Cuts ends.NoMemory stopping s now
+none_away stopping s now is g p =
+    let f = g.flows in
+    let at : At (stages.Closing ends.TooMany) s f.bytes f.said f.wrote = at_stage s (stages.Closing ends.TooMany) f.bytes f.said f.wrote is g.at in (
+      record {
+        flows = wrote_none s.first s.flow now s.output s.sent f p;
+        at = (at.0, spoke_away s.id ends.NoMemory f.bytes f.wrote f.said (drop s.sent s.output) s.calling.told at.1 (inr refl) (λ all. absurd all) (front_is s.first s.flow s.output s.sent f), tt);
+      },
+      refl,
+      tt,
+    )
+
+none_closing : (stopping : Bool) (s : Sight) (now : Flow) (closing : Why) → s.stage ≡ stages.Closing closing → Going s → IsWriting s.stage → PutOut s.flow now [] → Cuts ends.NoMemory stopping s now
+none_closing stopping s now ends.InputEnd is g w p = put_ends stopping ends.NoMemory s now (stages.Closing ends.InputEnd) is tt g w tt p (λ f. tt) tt
+none_closing stopping s now ends.Quit is g w p = put_ends stopping ends.NoMemory s now (stages.Closing ends.Quit) is tt g w tt p (λ f. tt) tt
+none_closing stopping s now ends.Asked is g w p = put_ends stopping ends.NoMemory s now (stages.Closing ends.Asked) is tt g w tt p (λ f. tt) tt
+none_closing stopping s now ends.Stopped is g w p = put_ends stopping ends.NoMemory s now (stages.Closing ends.Stopped) is tt g w tt p (λ f. tt) tt
+none_closing stopping s now (ends.Protocol kind at) is g w p = put_ends stopping ends.NoMemory s now (stages.Closing (ends.Protocol kind at)) is tt g w tt p (λ f. tt) tt
+none_closing stopping s now ends.ReadFault is g w p = put_ends stopping ends.NoMemory s now (stages.Closing ends.ReadFault) is tt g w tt p (λ f. tt) tt
+none_closing stopping s now ends.WriteFault is g w p = put_ends stopping ends.NoMemory s now (stages.Closing ends.WriteFault) is tt g w tt p (λ f. tt) tt
+none_closing stopping s now ends.TooMany is g w p = none_away stopping s now is g p
+none_closing stopping s now ends.Spent is g w p = put_ends stopping ends.NoMemory s now (stages.Closing ends.Spent) is tt g w tt p (λ f. tt) tt
+none_closing stopping s now ends.NoMemory is g w p = put_ends stopping ends.NoMemory s now (stages.Closing ends.NoMemory) is tt g w tt p (λ f. tt) tt
+
+none_from : (stopping : Bool) (s : Sight) (now : Flow) (x : Stage) → s.stage ≡ x → Going s → IsWriting s.stage → PutOut s.flow now [] → Cuts ends.NoMemory stopping s now
+none_from stopping s now stages.Open is g w p = put_ends stopping ends.NoMemory s now stages.Open is tt g w tt p (λ f. tt) tt
+none_from stopping s now stages.Calling is g w p = put_ends stopping ends.NoMemory s now stages.Calling is tt g w tt p (λ f. tt) tt
+none_from stopping s now (stages.Closing closing) is g w p = none_closing stopping s now closing is g w p
+none_from stopping s now (stages.Over over) is g w p = put_ends stopping ends.NoMemory s now (stages.Over over) is tt g w tt p (λ f. tt) tt
+
+pub put_none : (stopping : Bool) (s : Sight) (now : Flow) → Going s → IsWriting s.stage → PutOut s.flow now [] → Cuts ends.NoMemory stopping s now
+put_none stopping s now g w p = none_from stopping s now s.stage refl g w p
 
 -- ---- ends where nothing waits
 
 all_written : (first now : Flow) (output : Bytes) (sent : ℕ) (f : Flows first now output sent) → length output - sent ≡ 0 → f.said ≡ f.wrote
 all_written first now output sent f none = front_is first now output sent f ∙ ap (λ x. f.wrote ++ x) (drop_whole sent output (omega (arith, none))) ∙ append-nil f.wrote
 
-causes_itself : (why : Why) (stopping : Bool) (old new : Sight) → EndsItself why → Causes why stopping old new
-causes_itself ends.Quit stopping old new e = tt
-causes_itself ends.Asked stopping old new e = tt
-causes_itself (ends.Protocol kind at) stopping old new e = tt
-causes_itself ends.InputEnd stopping old new e = absurd e
-causes_itself ends.Stopped stopping old new e = absurd e
-causes_itself ends.ReadFault stopping old new e = absurd e
-causes_itself ends.WriteFault stopping old new e = absurd e
-causes_itself ends.TooMany stopping old new e = absurd e
-causes_itself ends.Spent stopping old new e = absurd e
-causes_itself ends.NoMemory stopping old new e = absurd e
+-- a session that is turned away and has written its line
+away_closed : (stopping : Bool) (s : Sight) (f : Flows s.first s.flow s.output s.sent) → length s.output - s.sent ≡ 0 → TurnsAway s.id f.bytes f.said s.calling.told → TurnedAway (stopping ≡ true) s.id s.first s.flow
+away_closed stopping s f none a = record {
+  late = a.late;
+  took = subst (Appends s.first.taken s.flow.taken) a.nothing f.taken;
+  said = inl (subst (Appends s.first.written s.flow.written) (sym (all_written s.first s.flow s.output s.sent f none) ∙ a.line) f.written);
+}
+
+-- what an end says of it, where all is written
+record EndsSo (why : Why) (stopping : Bool) (s : Sight) (bytes wrote : Bytes) : Type 0 where
+  spoke : Spoke (session_of s.id why bytes wrote) (told_items s.calling.told)
+  causes : Causes why stopping s (record s { stage = stages.Over why })
+
+ends_so : (why : Why) (stopping : Bool) (s : Sight) (f : Flows s.first s.flow s.output s.sent) → length s.output - s.sent ≡ 0 → EndsItself why → ClosesAs why s.id f.bytes f.said s.calling.told → EndsSo why stopping s f.bytes f.wrote
+ends_so ends.InputEnd stopping s f none e c = absurd e
+ends_so ends.Quit stopping s f none e c = record { spoke = spoke_closed s.id ends.Quit f.bytes f.wrote f.said s.calling.told c (all_written s.first s.flow s.output s.sent f none); causes = tt }
+ends_so ends.Asked stopping s f none e c = record { spoke = spoke_closed s.id ends.Asked f.bytes f.wrote f.said s.calling.told c (all_written s.first s.flow s.output s.sent f none); causes = tt }
+ends_so ends.Stopped stopping s f none e c = absurd e
+ends_so (ends.Protocol kind at) stopping s f none e c = record { spoke = spoke_closed s.id (ends.Protocol kind at) f.bytes f.wrote f.said s.calling.told c (all_written s.first s.flow s.output s.sent f none); causes = tt }
+ends_so ends.ReadFault stopping s f none e c = absurd e
+ends_so ends.WriteFault stopping s f none e c = absurd e
+ends_so ends.TooMany stopping s f none e c = record { spoke = spoke_away s.id ends.TooMany f.bytes f.wrote f.said [] s.calling.told c (inl refl) (λ all. refl) (all_written s.first s.flow s.output s.sent f none ∙ sym (append-nil f.wrote)); causes = away_closed stopping s f none c }
+ends_so ends.Spent stopping s f none e c = absurd e
+ends_so ends.NoMemory stopping s f none e c = absurd e
 
 pub closed : (stopping : Bool) (why : Why) (s : Sight) → Going s → s.stage ≡ stages.Closing why → length s.output - s.sent ≡ 0 → Turned (turns.Ended why) stopping s (record s { stage = stages.Over why })
 closed stopping why s g eq none =
     let f = g.flows in
     let at : At (stages.Closing why) s f.bytes f.said f.wrote = at_stage s (stages.Closing why) f.bytes f.said f.wrote eq g.at in
-    (record { flows = f; at = (at.0, spoke_closed s.id why f.bytes f.wrote f.said s.calling.told at.1 (all_written s.first s.flow s.output s.sent f none), at.2) }, refl, causes_itself why stopping s (record s { stage = stages.Over why }) at.3)
+    let so = ends_so why stopping s f none at.3 at.1 in
+    (record { flows = f; at = (at.0, so.spoke, at.2) }, refl, so.causes)
 
 pub stopped : (stopping : Bool) (s : Sight) → Going s → s.stage ≡ stages.Open → stopping ≡ true → Turned (turns.Ended ends.Stopped) stopping s (record s { stage = stages.Over ends.Stopped })
 stopped stopping s g eq is =

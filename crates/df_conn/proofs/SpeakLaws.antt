@@ -5,7 +5,9 @@ use Rattle.std.proofs.lemmas.List.Concat.{flat_map-append}
 use Rattle.df_model.specs.Values.{Bytes}
 use Rattle.df_model.specs.Words.{Words}
 use Rattle.df_model.specs.Replies.{encoding_of, protocol_error}
-use Rattle.df_model.specs.Framing.{Splits, Framed, BeginsWhole}
+use Rattle.df_model.specs.Framing.{Splits, Framed, BeginsWhole, sent}
+use Rattle.df_model.specs.declared.reply.ErrorText.TheVariants as errors
+use Rattle.df_model.specs.declared.reply.Reply.TheVariants.{Error}
 use Rattle.df_model.specs.BadInput.{BadAt}
 use Rattle.df_model.specs.Session.{State, Given, session_step}
 use Rattle.df_model.specs.Output.{Walk, SessionOutput, IsAtLast, MayStop, farewell}
@@ -18,7 +20,7 @@ use Rattle.df_model.proofs.FramingLaws.{no_split, splits_join}
 use Rattle.df_resp.proofs.FramedLaws.{every_list_is_framed}
 use Rattle.df_caller.specs.Told.{Told, told_items}
 use Rattle.df_conn.specs.Walked.{Walked, Speaks, Shown, Closes}
-use Rattle.df_conn.specs.Turns.{session_of}
+use Rattle.df_conn.specs.Turns.{session_of, TurnsAway, turned_away_line}
 
 no_farewell : (end : Why) → MayStop end → farewell end ≡ []
 no_farewell ends.InputEnd may = absurd may
@@ -174,3 +176,36 @@ pub spoke_closed : (id : ℕ) (why : Why) (bytes wrote said : Bytes) (told : Lis
 spoke_closed id why bytes wrote said told closes all =
     let c = closes why (inl refl) in
     spoke_front id why bytes wrote said [] told c.0 c.1 c.2 (all ∙ sym (append-nil wrote)) (λ _. refl)
+
+-- ---- a session that is turned away
+
+rest_of_none : (xs rest : Bytes) → [] ≡ xs ++ rest → rest ≡ []
+rest_of_none [] rest e = sym e
+rest_of_none (x ∷ xs) rest e = cc
+
+none_whole : ¬ (BeginsWhole [])
+none_whole =
+    let found = every_list_is_framed [] in
+    let f : Framed [] found.0 found.1.0 = found.1.1 in
+    subst (λ r. ¬ (BeginsWhole r)) (rest_of_none (flat_map sent f.splits.frames) found.1.0 f.splits.whole) f.no_whole
+
+speaks_away : SessionOutput [] ends.TooMany (told_items []) turned_away_line
+speaks_away = record { replies = Error errors.TooMany ∷ []; walk = Walk.turned_away State.Ready refl; out_is = sym (append-nil turned_away_line) ∙ sym (append-nil (turned_away_line ++ [])) }
+
+pub spoke_away : (id : ℕ) (why : Why) (bytes wrote said unsent : Bytes) (told : List Told) → TurnsAway id bytes said told → (why ≡ ends.TooMany) ⊎ (why ≡ ends.NoMemory) → (WritesAll why → unsent ≡ []) → said ≡ wrote ++ unsent
+    → Spoke (session_of id why bytes wrote) (told_items told)
+spoke_away id why bytes wrote said unsent told a how whole front = record {
+  requests = [];
+  rest = [];
+  framed = subst (λ b. Framed b [] []) (sym a.nothing) record { splits = no_split []; no_whole = none_whole };
+  shown = ends.TooMany;
+  shows = elim how [
+    | inl is ↦ inl (sym is)
+    | inr is ↦ inr (inr (is, a.nothing, a.late, refl))
+  ];
+  out = said;
+  output = subst (λ t. SessionOutput [] ends.TooMany (told_items t) said) (sym a.none) (subst (SessionOutput [] ends.TooMany (told_items [])) (sym a.line) speaks_away);
+  unsent = unsent;
+  front = front;
+  whole = whole;
+}

@@ -1,11 +1,14 @@
 -- A connection between its turns, and what a turn does.
-use Rattle.std.specs.Prelude.{◌≡◌, ◌⊎◌, ℕ, ◌+◌, ◌*◌, ◌^◌, ◌<◌, ◌≤◌, ◌-◌, Bool, true, false, Some, None, [], ◌∷◌, ◌++◌, length, take}
+use Rattle.std.specs.Prelude.{◌≡◌, ◌⊎◌, ℕ, List, ◌+◌, ◌*◌, ◌^◌, ◌<◌, ◌≤◌, ◌-◌, Bool, true, false, Some, None, [], ◌∷◌, ◌++◌, length, take}
 use Rattle.std.specs.Io.KnownBytes.{Appends}
 use Rattle.df_model.specs.Values.{Bytes}
 use Rattle.df_model.specs.Words.{Words}
 use Rattle.df_model.specs.Framing.{Splits, CanGoOn}
 use Rattle.df_model.specs.Session.{State}
-use Rattle.df_model.specs.Spoken.{Session, Spoke}
+use Rattle.df_model.specs.Replies.{encoding_of}
+use Rattle.df_model.specs.Spoken.{Session, Spoke, MAX_OPEN}
+use Rattle.df_model.specs.declared.reply.ErrorText.TheVariants as errors
+use Rattle.df_model.specs.declared.reply.Reply.TheVariants.{Error}
 use Rattle.df_model.specs.declared.command.Call.{Call}
 use Rattle.df_model.specs.declared.session.Turn.{Turn}
 use Rattle.df_model.specs.declared.session.Turn.TheVariants as turns
@@ -14,7 +17,7 @@ use Rattle.df_model.specs.declared.session.Why.TheVariants as ends
 use Rattle.df_outside.specs.Faults.{Rose}
 use Rattle.df_outside.specs.Links.{Flow, Spends}
 use Rattle.df_resp.specs.Stream.{Stream}
-use Rattle.df_caller.specs.Told.{told_items}
+use Rattle.df_caller.specs.Told.{Told, told_items}
 use Rattle.df_caller.specs.Calling.{Calling}
 use Rattle.df_conn.specs.Walked.{Closes}
 use Rattle.df_conn.specs.Talks.{Stands, Awaits, IsDry, BadNear}
@@ -63,7 +66,7 @@ Proven ends.TooMany bytes first now = Unit {0}
 Proven ends.Spent bytes first now = Unit {0}
 Proven ends.NoMemory bytes first now = Unit {0}
 
--- an end that the input itself asks for
+-- an end that nothing has to happen for: the input asks for it, or the session is one too many
 abbrev pub EndsItself : Why → Type 0
 EndsItself ends.Quit = Unit {0}
 EndsItself ends.Asked = Unit {0}
@@ -72,15 +75,39 @@ EndsItself ends.InputEnd = ⊥
 EndsItself ends.Stopped = ⊥
 EndsItself ends.ReadFault = ⊥
 EndsItself ends.WriteFault = ⊥
-EndsItself ends.TooMany = ⊥
+EndsItself ends.TooMany = Unit {0}
 EndsItself ends.Spent = ⊥
 EndsItself ends.NoMemory = ⊥
+
+-- the line of a session that is turned away
+abbrev pub turned_away_line : Bytes
+turned_away_line = encoding_of (Error errors.TooMany)
+
+-- it takes nothing, and that line is all that it says
+pub record TurnsAway (id : ℕ) (bytes said : Bytes) (told : List Told) : Type 0 where
+  pub late : MAX_OPEN ≤ id
+  pub nothing : bytes ≡ []
+  pub none : told ≡ []
+  pub line : said ≡ turned_away_line
+
+-- nothing more is taken, and the session ends so
+abbrev pub ClosesAs : Why → ℕ → Bytes → Bytes → List Told → Type 0
+ClosesAs ends.InputEnd id bytes said told = Closes ends.InputEnd bytes said told
+ClosesAs ends.Quit id bytes said told = Closes ends.Quit bytes said told
+ClosesAs ends.Asked id bytes said told = Closes ends.Asked bytes said told
+ClosesAs ends.Stopped id bytes said told = Closes ends.Stopped bytes said told
+ClosesAs (ends.Protocol kind at) id bytes said told = Closes (ends.Protocol kind at) bytes said told
+ClosesAs ends.ReadFault id bytes said told = Closes ends.ReadFault bytes said told
+ClosesAs ends.WriteFault id bytes said told = Closes ends.WriteFault bytes said told
+ClosesAs ends.TooMany id bytes said told = TurnsAway id bytes said told
+ClosesAs ends.Spent id bytes said told = Closes ends.Spent bytes said told
+ClosesAs ends.NoMemory id bytes said told = Closes ends.NoMemory bytes said told
 
 -- what was taken, said, told and written fits together
 abbrev pub At : Stage → Sight → Bytes → Bytes → Bytes → Type 0
 At stages.Open s bytes said wrote = (s.calling.under ≡ None) × Stands s.calling.told bytes said s.state s.stream
 At stages.Calling s bytes said wrote = (call : Call) × (s.calling.under ≡ Some call) × Awaits s.calling.told bytes said call s.state s.stream
-At (stages.Closing why) s bytes said wrote = (s.calling.under ≡ None) × Closes why bytes said s.calling.told × Proven why bytes s.first s.flow × EndsItself why
+At (stages.Closing why) s bytes said wrote = (s.calling.under ≡ None) × ClosesAs why s.id bytes said s.calling.told × Proven why bytes s.first s.flow × EndsItself why
 At (stages.Over why) s bytes said wrote =
     (s.calling.under ≡ None) × Spoke (session_of s.id why bytes wrote) (told_items s.calling.told) × Proven why bytes s.first s.flow
 
@@ -190,18 +217,43 @@ Falls = (old new : Sight) (a b : ℕ) → Moves old new → old.flow.left ≡ So
 abbrev pub NeverStalls : Type 0
 NeverStalls = (old new : Sight) (a : ℕ) → Stalls old new → old.flow.left ≡ Some a → old.calling.due ≡ true → ⊥
 
+-- A session that was turned away took nothing; its line was written whole, unless a write failed or all were to end.
+pub record TurnedAway (Halts : Type 0) (id : ℕ) (first now : Flow) : Type 0 where
+  pub late : MAX_OPEN ≤ id
+  pub took : Appends first.taken now.taken []
+  pub said : Appends first.written now.written turned_away_line ⊎ (Rose first.write_faults now.write_faults ⊎ Halts)
+
 -- why it ended in this turn
 abbrev pub Causes : Why → Bool → Sight → Sight → Type 0
 Causes ends.ReadFault stopping old new = Rose old.flow.read_faults new.flow.read_faults
 Causes ends.WriteFault stopping old new = Rose old.flow.write_faults new.flow.write_faults
 Causes ends.Stopped stopping old new = stopping ≡ true
-Causes ends.TooMany stopping old new = ⊥
+Causes ends.TooMany stopping old new = TurnedAway (stopping ≡ true) new.id new.first new.flow
 Causes ends.InputEnd stopping old new = Unit {0}
 Causes (ends.Protocol kind at) stopping old new = Unit {0}
 Causes ends.Quit stopping old new = Unit {0}
 Causes ends.Asked stopping old new = Unit {0}
 Causes ends.Spent stopping old new = Unit {0}
 Causes ends.NoMemory stopping old new = Unit {0}
+
+-- a session that can't go on writing ends so, but for one that is turned away, which ends as that
+abbrev pub cut_off : Why → Why → Why
+cut_off ends.InputEnd why = why
+cut_off ends.Quit why = why
+cut_off ends.Asked why = why
+cut_off ends.Stopped why = why
+cut_off (ends.Protocol kind at) why = why
+cut_off ends.ReadFault why = why
+cut_off ends.WriteFault why = why
+cut_off ends.TooMany why = ends.TooMany
+cut_off ends.Spent why = why
+cut_off ends.NoMemory why = why
+
+abbrev pub cut_at : Stage → Why → Why
+cut_at stages.Open why = why
+cut_at stages.Calling why = why
+cut_at (stages.Closing closing) why = cut_off closing why
+cut_at (stages.Over over) why = why
 
 abbrev pub Turned : Turn → Bool → Sight → Sight → Type 0
 Turned turns.Moved stopping old new = Going new × IsGoing new.stage × Moves old new

@@ -9,13 +9,14 @@
 //! What if memory runs out? Room for each short reply, that for want of memory among them, is made before a request
 //! is taken. Where there is none, what waits is written first, and the session ends only once nothing waits.
 
-ghost use Rattle.std.specs.Prelude.{◌≡◌, ◌⊎◌, ◌<◌, ◌≤◌, None, [], true, length, MatchOption};
-ghost use Rattle.df_conn.specs.Turns.{see, Going, IsGoing, IsWriting, Turned, Rests, Ended, is_over, waiting_in};
+ghost use Rattle.std.specs.Prelude.{◌≡◌, ◌⊎◌, ◌<◌, ◌≤◌, None, [], true, length, IfOk, MatchOption};
+ghost use Rattle.df_model.specs.Spoken.{MAX_OPEN};
+ghost use Rattle.df_conn.specs.Turns.{see, Going, IsGoing, IsWriting, Turned, Rests, Ended, is_over, waiting_in, cut_at, turned_away_line as expected_line};
 
 use crate::answer::SHORT;
 use crate::talk::{Taken, Talk};
 use df_caller::{Caller, Went};
-use df_model::{ErrorText, SessionEnd, Turn, Why};
+use df_model::{ErrorText, NoMemory, SessionEnd, Turn, Why};
 use df_outside::{Got, Link, Put};
 use df_resp::encode_error;
 use std::alloc::Global;
@@ -67,6 +68,32 @@ impl<L: Link, C: Caller> Conn<L, C> {
             id,
             stage: Stage::Open,
             talk: Talk::new(alloc),
+            caller,
+            link,
+            first,
+        }
+    }
+
+    /// A session that is turned away, since too many are open: it takes nothing, writes the line that says why, and ends.
+    /// Takes no memory beside the line's, which `turned_away_line` made.
+    pub fn turned_away(alloc: Global, id: u64, link: L, caller: C, line: Vec<u8>) -> Conn<L, C>
+        requires idle { (C.calling caller).under ≡ None }
+        requires none { (C.calling caller).told ≡ [] }
+        requires late { MAX_OPEN ≤ id }
+        requires line { line.items ≡ expected_line }
+        ensures going { Going (see result.id result.stage (C.calling result.caller) (L.flow result.first.value) (L.flow result.link) result.talk) }
+        ensures id { result.id ≡ id }
+        ensures closing { result.stage ≡ Stage.Closing Why.TooMany }
+        ensures caller { result.caller ≡ caller }
+        ensures first { result.first.value ≡ link }
+    {
+        let first = Snapshot::of(&link);
+        let mut talk = Talk::new(alloc);
+        talk.output = line;
+        Conn {
+            id,
+            stage: Stage::Closing(Why::TooMany),
+            talk,
             caller,
             link,
             first,
@@ -271,14 +298,16 @@ impl<L: Link, C: Caller> Conn<L, C> {
             }
             Put::NotYet => {
                 if stopping {
-                    self.stage = Stage::Over(Why::Stopped);
-                    return Turn::Ended(Why::Stopped);
+                    let why = cut_short(self.stage, Why::Stopped);
+                    self.stage = Stage::Over(why);
+                    return Turn::Ended(why);
                 }
                 Turn::NotYet
             }
             Put::Failed => {
-                self.stage = Stage::Over(Why::WriteFault);
-                Turn::Ended(Why::WriteFault)
+                let why = cut_short(self.stage, Why::WriteFault);
+                self.stage = Stage::Over(why);
+                Turn::Ended(why)
             }
             Put::NoMemory => {
                 self.stage = Stage::Over(Why::NoMemory);
@@ -322,6 +351,20 @@ impl<L: Link, C: Caller> Conn<L, C> {
         }
     }
 
+    /// Lets memory go that it doesn't need while nothing comes. Its next request takes it anew.
+    pub fn shrink(&mut self)
+        ensures going { Going (see self.old.id self.old.stage (C.calling self.old.caller) (L.flow self.old.first.value) (L.flow self.old.link) self.old.talk) → Going (see self.new.id self.new.stage (C.calling self.new.caller) (L.flow self.new.first.value) (L.flow self.new.link) self.new.talk) }
+        ensures id { self.new.id ≡ self.old.id }
+        ensures stage { self.new.stage ≡ self.old.stage }
+        ensures caller { self.new.caller ≡ self.old.caller }
+        ensures first { self.new.first ≡ self.old.first }
+        ensures link { self.new.link ≡ self.old.link }
+        ensures rest { self.new.talk.reader.rest ≡ self.old.talk.reader.rest }
+        ensures waits { waiting_in self.new.talk ≡ waiting_in self.old.talk }
+    {
+        self.talk.shrink();
+    }
+
     /// Whether a turn has ended it.
     pub fn is_ended(&self) -> bool
         ensures { result ≡ is_over self.now.stage }
@@ -362,4 +405,23 @@ impl<L: Link, C: Caller> Conn<L, C> {
         link.close();
         (SessionEnd { id, link, why }, caller, first)
     }
+}
+
+/// How a session ends that can't go on writing: one that is turned away ends as that.
+fn cut_short(stage: Stage, why: Why) -> Why
+    ensures { result ≡ cut_at stage why }
+{
+    match stage {
+        Stage::Closing(Why::TooMany) => Why::TooMany,
+        Stage::Open | Stage::Calling | Stage::Closing(_) | Stage::Over(_) => why,
+    }
+}
+
+/// The line of a session that is turned away.
+pub fn turned_away_line(alloc: Global) -> Result<Vec<u8>, NoMemory>
+    ensures { IfOk result (λ line. line.items ≡ expected_line) }
+{
+    let mut line = Vec::new(alloc);
+    encode_error(&ErrorText::TooMany, &mut line)?;
+    Ok(line)
 }

@@ -10,4 +10,4 @@ mod hear;
 pub mod laws;
 mod talk;
 
-pub use conn::{Conn, Stage};
+pub use conn::{Conn, Stage, turned_away_line};

@@ -1,10 +1,10 @@
 -- What each turn makes of a session that has a table of its own.
-use Rattle.std.proofs.Common.{◌≡◌, inl, inr, ℕ, ◌+◌, eqb, true, false, List, [], ◌∷◌, ◌++◌, refl, sym, ap, subst, ◌∙◌}
+use Rattle.std.proofs.Common.{◌≡◌, inl, inr, ℕ, ◌+◌, ◌≤◌, arith, eqb, true, false, List, [], ◌∷◌, ◌++◌, refl, sym, ap, subst, ◌∙◌}
 use Rattle.std.specs.Prelude.{is_some}
 use Rattle.std.specs.List.{AllByRecursion}
 use Rattle.df_model.specs.Keyspace.{Keyspace, no_keys}
 use Rattle.df_model.specs.History.{Item}
-use Rattle.df_model.specs.Spoken.{Spoke}
+use Rattle.df_model.specs.Spoken.{Spoke, MAX_OPEN}
 use Rattle.df_model.specs.declared.session.Turn.TheVariants as turns
 use Rattle.df_model.specs.declared.session.Why.{Why}
 use Rattle.df_outside.specs.Links.{Flow}
@@ -23,7 +23,7 @@ pub holds_first : (flow : Flow) (K : Keyspace) (s : Sitting) → Sits s 0 flow �
 holds_first flow K s sits limited keys = record {
   id = sits.id_is;
   first_is = refl;
-  going = subst IsGoing (sym sits.is_open) tt;
+  going = sits.going;
   limited = sits.limited limited;
   due = sits.due;
   ran = record {
@@ -75,6 +75,10 @@ numbers before (i ∷ items) each placed = (each.0, placed.0, placed.1, numbers 
 over_same : (a b : Why) → stages.Over a ≡ stages.Over b → a ≡ b
 over_same a b e = cc
 
+-- the first session isn't late
+none_late : (id : ℕ) → id ≡ 0 → MAX_OPEN ≤ id → ⊥
+none_late id zero late = omega (arith, zero, late)
+
 pub ends_alone : (why : Why) (first : Flow) (K after : Keyspace) (old new : Sitting) (p : Parted) → PipeHolds first K old → Sat false (turns.Ended why) old new → Ran old.desk.ran new.desk.ran K after → Left new p → ServedAlone first p
 ends_alone why first K after old new p h sat ran left =
     let same : p.why ≡ why = over_same p.why why (sym left.over ∙ sat.stage) in
@@ -87,8 +91,8 @@ ends_alone why first K after old new p h sat ran left =
     (subst (λ l. Spoke (session_of p.id p.why x.bytes x.wrote) (told_items l)) (left.told ∙ sym r.ran_is) x.spoke) in
     record {
       first_is = left.first ∙ sat.first ∙ h.first_is;
-      not_stopped = λ is. cc (sat.halts (sym same ∙ is));
-      let_in = λ is. sat.let_in (sym same ∙ is);
+      not_stopped = λ is. cc (sat.halts.0 (sym same ∙ is));
+      let_in = λ is. absurd (none_late new.id (sat.id ∙ h.id) (sat.halts.1 (sym same ∙ is)).late);
       items = r.items;
       legal = e.0;
       ordered = e.1;

@@ -6,11 +6,12 @@ use Rattle.df_model.specs.declared.session.Why.TheVariants as ends
 use Rattle.df_outside.specs.Faults.{Rose}
 use Rattle.df_outside.specs.Doors.{Hall, IsTold, StaysOpen}
 use Rattle.df_sessions.specs.Sessions.{Parted}
-use Rattle.df_sessions.specs.AllSessions.{AnyAsked, EndsFor, Promises}
+use Rattle.df_sessions.specs.AllSessions.{AnyAsked, EndsFor, Promises, IsToldSo}
 use Rattle.df_sessions.specs.Entries.{GaveSince, IsDone, Since}
 use Rattle.df_sessions.specs.declared.rounds.Entry.{Entry}
 use Rattle.df_sessions.specs.declared.rounds.Entry.TheVariants as entries
 use Rattle.df_sessions.proofs.ListLaws.{all_map}
+use Rattle.df_sessions.proofs.SessionLaws.{told_also}
 use Rattle.df_server.specs.Serve.{ServeRun, Opened, ready, status_for}
 
 -- the status has its cause
@@ -31,5 +32,6 @@ has_served run old asked entry count sessions stays bound status same says since
       given = subst (λ g. GaveSince g run.hall.given count) stays.given since.given;
       promises = subst (Promises no_keys count) (sym same) promises;
       stopped = all_map (λ (p : Parted). p.why ≡ ends.Stopped → asked ≡ true) (λ (p : Parted). p.why ≡ ends.Stopped → AnyAsked run.sessions) run.sessions (λ p f e. ended.by_one (f e)) ended.stopped;
+      turned_away = all_map (IsToldSo (asked ≡ true)) (IsToldSo (AnyAsked run.sessions)) run.sessions (λ p f. told_also (asked ≡ true) (AnyAsked run.sessions) p ended.by_one f) ended.turned_away;
       cause = cause_of entry asked run.status count run.sessions run.hall_before old run.hall status done ended stays since;
     })

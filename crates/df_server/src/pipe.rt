@@ -27,7 +27,12 @@ pub fn run<S: Source + Send, O: Sink + Send>(alloc: Global, input: S, out: O) ->
     let Ok(mut buffer) = vec![in alloc; 0u8; READ_SIZE] else {
         return (4, input, out);
     };
-    let seat = Seat::new(alloc, 0, PairLink::new(input, out, INPUT_LIMIT));
+    let seat = Seat::new(
+        alloc,
+        0,
+        PairLink::new(input, out, INPUT_LIMIT),
+        Welcome::In,
+    );
     let Gone {
         end,
         first: _,

@@ -5,7 +5,7 @@ use Rattle.df_model.specs.declared.session.Turn.{Turn}
 use Rattle.df_model.specs.declared.session.Turn.TheVariants as turns
 use Rattle.df_outside.specs.Links.{Flow, Spends}
 use Rattle.df_caller.specs.Calling.{Calling}
-use Rattle.df_conn.specs.Turns.{Sight, At, see, Going, Turned, Causes, Moves, rank, waiting}
+use Rattle.df_conn.specs.Turns.{Sight, At, see, Going, Turned, TurnedAway, Causes, Moves, rank, waiting}
 use Rattle.df_conn.specs.declared.conn.Stage.{Stage}
 use Rattle.df_conn.specs.declared.conn.Stage.TheVariants as stages
 use Rattle.df_conn.proofs.WorkLaws.{falls, never_stalls}
@@ -13,7 +13,7 @@ use Rattle.df_conn.specs.declared.talk.Talk.{Talk}
 use Rattle.df_model.specs.Values.{Bytes}
 use Rattle.df_model.specs.Keyspace.{Keyspace}
 use Rattle.df_desk.specs.States.{DeskState, Served}
-use Rattle.df_sessions.specs.Sessions.{StageAt, HaltsFor, IsLetIn, ComesNearer, Sitting, Sat, Same, IsDueAfter, limit_of, work_of}
+use Rattle.df_sessions.specs.Sessions.{StageAt, HaltsFor, ComesNearer, Sitting, Sat, Same, IsDueAfter, limit_of, work_of}
 use Rattle.df_sessions.specs.AllSessions.{Ran}
 
 pub turned_going : (turn : Turn) (stopping : Bool) (old new : Sight) → Turned turn stopping old new → Going new
@@ -25,16 +25,6 @@ pub turned_stage : (turn : Turn) (stopping : Bool) (old new : Sight) → Turned 
 turned_stage turns.Moved stopping old new t = t.1
 turned_stage turns.NotYet stopping old new t = t.1
 turned_stage (turns.Ended why) stopping old new t = t.1
-
-pub turned_halts : (turn : Turn) (stopping : Bool) (old new : Sight) → Turned turn stopping old new → HaltsFor stopping turn
-turned_halts turns.Moved stopping old new t = tt
-turned_halts turns.NotYet stopping old new t = tt
-turned_halts (turns.Ended why) stopping old new t = λ e. subst (λ w. Causes w stopping old new) e t.2
-
-pub turned_let_in : (turn : Turn) (stopping : Bool) (old new : Sight) → Turned turn stopping old new → IsLetIn turn
-turned_let_in turns.Moved stopping old new t = tt
-turned_let_in turns.NotYet stopping old new t = tt
-turned_let_in (turns.Ended why) stopping old new t = λ e. subst (λ w. Causes w stopping old new) e t.2
 
 -- Going doesn't look at whether the call's outcome is due
 at_due : (x : Stage) (s : Sight) (due : Bool) (bytes said wrote : Bytes) → At x s bytes said wrote → At x (record s { calling = record s.calling { due = due } }) bytes said wrote
@@ -58,6 +48,21 @@ same_work old new same =
 -- what a turn of the connection does, as its seat sees it
 abbrev pub seen : DeskState → Sight → Sitting
 seen desk s = record { id = s.id; stage = s.stage; desk = desk; first = s.first; flow = s.flow; rest = length s.stream.rest; waits = waiting s }
+
+pub turned_halts : (turn : Turn) (stopping : Bool) (old new : Sight) (desk : DeskState) → Turned turn stopping old new → HaltsFor stopping turn (seen desk new)
+turned_halts turns.Moved stopping old new desk t = tt
+turned_halts turns.NotYet stopping old new desk t = tt
+turned_halts (turns.Ended why) stopping old new desk t = ((λ e. subst (λ w. Causes w stopping old new) e t.2), (λ e. subst (λ w. Causes w stopping old new) e t.2))
+
+-- a session that was turned away is seen alike in its seat and after it
+pub away_alike : (Halts : Type 0) (id other : ℕ) (first first' now now' : Flow) → other ≡ id → first' ≡ first → now' ≡ now → TurnedAway Halts id first now → TurnedAway Halts other first' now'
+away_alike Halts id other first first' now now' same one two a =
+    subst (λ n. TurnedAway Halts n first' now') (sym same) (subst (λ f. TurnedAway Halts id f now') (sym one) (subst (λ f. TurnedAway Halts id first f) (sym two) a))
+
+halts_after : (turn : Turn) (stopping : Bool) (middle new : Sitting) → HaltsFor stopping turn middle → Same middle new → HaltsFor stopping turn new
+halts_after turns.Moved stopping middle new h same = tt
+halts_after turns.NotYet stopping middle new h same = tt
+halts_after (turns.Ended why) stopping middle new h same = (h.0, (λ e. away_alike (stopping ≡ true) middle.id new.id middle.first new.first middle.flow new.flow same.id same.first same.flow (h.1 e)))
 
 told_is : (x : Option ℕ) → is_some x ≡ true → x ≡ Some (limit_of x)
 told_is None e = absurd (cc e)
@@ -106,4 +111,4 @@ pub due_served : (middle new : DeskState) (K after : Keyspace) → Served middle
 due_served middle new K after s = ap (λ c. c.due) s.calling
 
 pub sat_after : (stopping : Bool) (turn : Turn) (old middle new : Sitting) → Sat stopping turn old middle → Same middle new → Sat stopping turn old new
-sat_after stopping turn old middle new s same = record { id = same.id ∙ s.id; first = same.first ∙ s.first; stage = subst (StageAt turn) (sym same.stage) s.stage; halts = s.halts; let_in = s.let_in; nearer = nearer_after turn old middle new s.nearer same }
+sat_after stopping turn old middle new s same = record { id = same.id ∙ s.id; first = same.first ∙ s.first; stage = subst (StageAt turn) (sym same.stage) s.stage; halts = halts_after turn stopping middle new s.halts same; nearer = nearer_after turn old middle new s.nearer same }

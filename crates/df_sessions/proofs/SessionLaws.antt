@@ -17,7 +17,7 @@ use Rattle.df_conn.specs.Turns.{session_of}
 use Rattle.df_desk.specs.OneTable.{with_ran, GoneOn}
 use Rattle.df_desk.proofs.TableLaws.{tables_go_on, tables_end}
 use Rattle.df_sessions.specs.Sessions.{Sitting, Parted, HasSpoken}
-use Rattle.df_sessions.specs.AllSessions.{at_id, at_below, gone_at, Holds, Ran, HasItems, Promises, AnyAsked, EndsFor, asks_with}
+use Rattle.df_sessions.specs.AllSessions.{at_id, at_below, gone_at, Holds, Ran, HasItems, Promises, AnyAsked, EndsFor, IsToldSo, asks_with}
 use Rattle.df_sessions.proofs.ListLaws.{all_set, all_get, all_without, all_push, all_map, all_three, all_none, all_other, sum_ge}
 
 abbrev bit : Bool → ℕ
@@ -195,7 +195,21 @@ ends K0 K count gone h =
 -- ---- why sessions ended
 
 pub none_ended : EndsFor false []
-none_ended = record { by_one = λ e. absurd (cc e); stopped = tt }
+none_ended = record { by_one = λ e. absurd (cc e); stopped = tt; turned_away = tt }
+
+-- where one thing that ends sessions means another
+pub told_also : (A B : Type 0) (p : Parted) → (A → B) → IsToldSo A p → IsToldSo B p
+told_also A B p f told = λ e.
+    let a = told e in
+    record {
+      late = a.late;
+      took = a.took;
+      said = elim a.said [
+        | inl line ↦ inl line
+        | inr (inl rose) ↦ inr (inl rose)
+        | inr (inr halts) ↦ inr (inr (f halts))
+      ];
+    }
 
 any_more : (gone : List Parted) (p : Parted) → AnyAsked gone → AnyAsked (gone ++ p ∷ [])
 any_more [] p a = absurd a
@@ -207,23 +221,25 @@ any_last [] p is = inl is
 any_last (x ∷ gone) p is = inr (any_last gone p is)
 
 -- one more ended that didn't ask
-other_ended : (asked : Bool) (why : Why) (gone : List Parted) (p : Parted) → EndsFor asked gone → p.why ≡ why → (why ≡ whys.Stopped → asked ≡ true) → EndsFor asked (gone ++ p ∷ [])
-other_ended asked why gone p h is halts = record {
+other_ended : (asked : Bool) (why : Why) (gone : List Parted) (p : Parted) → EndsFor asked gone → p.why ≡ why → (why ≡ whys.Stopped → asked ≡ true) → IsToldSo (asked ≡ true) p → EndsFor asked (gone ++ p ∷ [])
+other_ended asked why gone p h is halts told = record {
   by_one = λ e. any_more gone p (h.by_one e);
   stopped = all_push (λ (x : Parted). x.why ≡ whys.Stopped → asked ≡ true) gone p h.stopped (λ e. halts (sym is ∙ e));
+  turned_away = all_push (IsToldSo (asked ≡ true)) gone p h.turned_away told;
 }
 
-pub one_ended : (asked : Bool) (why : Why) (gone : List Parted) (p : Parted) → EndsFor asked gone → p.why ≡ why → (why ≡ whys.Stopped → asked ≡ true) → EndsFor (asks_with asked why) (gone ++ p ∷ [])
-one_ended asked whys.Asked gone p h is halts = record {
+pub one_ended : (asked : Bool) (why : Why) (gone : List Parted) (p : Parted) → EndsFor asked gone → p.why ≡ why → (why ≡ whys.Stopped → asked ≡ true) → IsToldSo (asked ≡ true) p → EndsFor (asks_with asked why) (gone ++ p ∷ [])
+one_ended asked whys.Asked gone p h is halts told = record {
   by_one = λ e. any_last gone p is;
   stopped = all_push (λ (x : Parted). x.why ≡ whys.Stopped → true ≡ true) gone p (all_map (λ (x : Parted). x.why ≡ whys.Stopped → asked ≡ true) (λ (x : Parted). x.why ≡ whys.Stopped → true ≡ true) gone (λ x f e. refl) h.stopped) (λ e. refl);
+  turned_away = all_push (IsToldSo (true ≡ true)) gone p (all_map (IsToldSo (asked ≡ true)) (IsToldSo (true ≡ true)) gone (λ x f. told_also (asked ≡ true) (true ≡ true) x (λ e. refl) f) h.turned_away) (told_also (asked ≡ true) (true ≡ true) p (λ e. refl) told);
 }
-one_ended asked whys.InputEnd gone p h is halts = other_ended asked whys.InputEnd gone p h is halts
-one_ended asked whys.Quit gone p h is halts = other_ended asked whys.Quit gone p h is halts
-one_ended asked whys.Stopped gone p h is halts = other_ended asked whys.Stopped gone p h is halts
-one_ended asked (whys.Protocol kind at) gone p h is halts = other_ended asked (whys.Protocol kind at) gone p h is halts
-one_ended asked whys.ReadFault gone p h is halts = other_ended asked whys.ReadFault gone p h is halts
-one_ended asked whys.WriteFault gone p h is halts = other_ended asked whys.WriteFault gone p h is halts
-one_ended asked whys.TooMany gone p h is halts = other_ended asked whys.TooMany gone p h is halts
-one_ended asked whys.Spent gone p h is halts = other_ended asked whys.Spent gone p h is halts
-one_ended asked whys.NoMemory gone p h is halts = other_ended asked whys.NoMemory gone p h is halts
+one_ended asked whys.InputEnd gone p h is halts told = other_ended asked whys.InputEnd gone p h is halts told
+one_ended asked whys.Quit gone p h is halts told = other_ended asked whys.Quit gone p h is halts told
+one_ended asked whys.Stopped gone p h is halts told = other_ended asked whys.Stopped gone p h is halts told
+one_ended asked (whys.Protocol kind at) gone p h is halts told = other_ended asked (whys.Protocol kind at) gone p h is halts told
+one_ended asked whys.ReadFault gone p h is halts told = other_ended asked whys.ReadFault gone p h is halts told
+one_ended asked whys.WriteFault gone p h is halts told = other_ended asked whys.WriteFault gone p h is halts told
+one_ended asked whys.TooMany gone p h is halts told = other_ended asked whys.TooMany gone p h is halts told
+one_ended asked whys.Spent gone p h is halts told = other_ended asked whys.Spent gone p h is halts told
+one_ended asked whys.NoMemory gone p h is halts told = other_ended asked whys.NoMemory gone p h is halts told

@@ -13,7 +13,7 @@ use Rattle.df_model.specs.declared.session.Why.{Why}
 use Rattle.df_model.specs.declared.session.Why.TheVariants as ends
 use Rattle.df_outside.specs.Doors.{IsFresh}
 use Rattle.df_caller.specs.Told.{Told}
-use Rattle.df_conn.specs.Turns.{IsGoing, Proven, session_of}
+use Rattle.df_conn.specs.Turns.{IsGoing, Proven, TurnedAway, session_of}
 use Rattle.df_desk.specs.OneTable.{OneTable, of_session}
 use Rattle.df_sessions.specs.Sessions.{Sitting, Parted, HasSpoken}
 
@@ -88,10 +88,16 @@ asks_with asked ends.TooMany = asked
 asks_with asked ends.Spent = asked
 asks_with asked ends.NoMemory = asked
 
--- where all are to end, one asked for it; and a session was stopped only then
+-- where it was turned away: what that means
+abbrev pub IsToldSo : Type 0 → Parted → Type 0
+IsToldSo Halts p = p.why ≡ ends.TooMany → TurnedAway Halts p.id p.first p.flow
+
+-- where all are to end, one asked for it; a session was stopped only then, and one that was turned away took nothing and
+-- was told so
 pub record EndsFor (asked : Bool) (gone : List Parted) : Type 0 where
   pub by_one : asked ≡ true → AnyAsked gone
   pub stopped : AllByRecursion (λ (p : Parted). p.why ≡ ends.Stopped → asked ≡ true) gone
+  pub turned_away : AllByRecursion (IsToldSo (asked ≡ true)) gone
 
 -- ---- the end
 

@@ -1,3 +1,4 @@
 pub mod Sessions
 pub mod AllSessions
 pub mod Entries
+pub mod Welcomes

@@ -9,7 +9,7 @@ use Rattle.df_model.specs.declared.session.Why.{Why}
 use Rattle.df_model.specs.declared.session.Why.TheVariants as ends
 use Rattle.df_outside.specs.Links.{Flow, Spends}
 use Rattle.df_caller.specs.Told.{Told, told_items}
-use Rattle.df_conn.specs.Turns.{IsGoing, Proven, session_of, rank}
+use Rattle.df_conn.specs.Turns.{IsGoing, Proven, TurnedAway, session_of, rank}
 use Rattle.df_conn.specs.declared.conn.Stage.{Stage}
 use Rattle.df_conn.specs.declared.conn.Stage.TheVariants as stages
 use Rattle.df_desk.specs.States.{DeskState}
@@ -49,7 +49,7 @@ ComesNearer (turns.Ended why) old new = Unit {0}
 -- a session at its start
 pub record Sits (s : Sitting) (id : ℕ) (flow : Flow) : Type 0 where
   pub id_is : s.id ≡ id
-  pub is_open : s.stage ≡ stages.Open
+  pub going : IsGoing s.stage
   pub none : s.desk.ran ≡ []
   pub first_is : s.first ≡ flow
   -- where the link has a limit, it has it still
@@ -70,25 +70,18 @@ StageAt turns.Moved stage = IsGoing stage
 StageAt turns.NotYet stage = IsGoing stage
 StageAt (turns.Ended why) stage = stage ≡ stages.Over why
 
--- a session is stopped only where all are to end
-abbrev pub HaltsFor : Bool → Turn → Type 0
-HaltsFor stopping turns.Moved = Unit {0}
-HaltsFor stopping turns.NotYet = Unit {0}
-HaltsFor stopping (turns.Ended why) = why ≡ ends.Stopped → stopping ≡ true
-
--- no session that was let in is one too many
-abbrev pub IsLetIn : Turn → Type 0
-IsLetIn turns.Moved = Unit {0}
-IsLetIn turns.NotYet = Unit {0}
-IsLetIn (turns.Ended why) = why ≡ ends.TooMany → ⊥
+-- a session is stopped only where all are to end, and one that is turned away took nothing and was told so
+abbrev pub HaltsFor : Bool → Turn → Sitting → Type 0
+HaltsFor stopping turns.Moved s = Unit {0}
+HaltsFor stopping turns.NotYet s = Unit {0}
+HaltsFor stopping (turns.Ended why) s = (why ≡ ends.Stopped → stopping ≡ true) × (why ≡ ends.TooMany → TurnedAway (stopping ≡ true) s.id s.first s.flow)
 
 -- after a turn
 pub record Sat (stopping : Bool) (turn : Turn) (old new : Sitting) : Type 0 where
   pub id : new.id ≡ old.id
   pub first : new.first ≡ old.first
   pub stage : StageAt turn new.stage
-  pub halts : HaltsFor stopping turn
-  pub let_in : IsLetIn turn
+  pub halts : HaltsFor stopping turn new
   pub nearer : ComesNearer turn old new
 
 -- a call that was served is due

@@ -7,6 +7,7 @@ mod quiet;
 mod rounds;
 mod seat;
 mod table_sessions;
+mod welcome;
 
 pub use gone::Gone;
 pub use rounds::{Entry, Served, serve};

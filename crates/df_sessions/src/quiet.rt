@@ -70,14 +70,17 @@ impl Quiet {
         quiet && !self.all
     }
 
-    /// The session at this place was visited, and did something or not.
-    pub fn note(&mut self, at: usize, worked: bool) {
+    /// The session at this place was visited, and did something or not. Says whether it is passed over from now on.
+    pub fn note(&mut self, at: usize, worked: bool) -> bool {
         if worked {
             self.worked = true;
         }
-        if let Some(rounds) = self.idle.get_mut(at) {
-            *rounds = if worked { 0 } else { rounds.saturating_add(1) };
-        }
+        let Some(rounds) = self.idle.get_mut(at) else {
+            return false;
+        };
+        let before = *rounds;
+        *rounds = if worked { 0 } else { before.saturating_add(1) };
+        before < PATIENCE && *rounds >= PATIENCE
     }
 
     /// Milliseconds to rest at the most after this round: none where there is more to do.

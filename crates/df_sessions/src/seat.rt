@@ -4,6 +4,8 @@ ghost use Rattle.std.specs.Prelude.{◌≡◌, ◌<◌, [], length, true};
 ghost use Rattle.df_conn.specs.Turns.{IsGoing, is_over};
 ghost use Rattle.df_sessions.specs.Sessions.{Sits, Sat, Same, Left, IsDueAfter};
 ghost use Rattle.df_sessions.specs.AllSessions.{Ran};
+ghost use Rattle.df_sessions.specs.Welcomes.{IsWelcome};
+ghost use Rattle.df_sessions.specs.declared.welcome.Welcome.{Welcome};
 ghost use Rattle.df_desk.specs.States.{Served};
 
 use crate::gone::Gone;
@@ -54,12 +56,30 @@ impl<L: Link, C: Caller> Seat<L, C> {
 }
 
 impl<L: Link> Seat<L, Desk> {
+    /// A session at its start.
     pub fn new(alloc: Global, id: u64, link: L) -> Seat<L, Desk>
         ensures { Sits result id (L.flow link) }
     {
         Seat {
             conn: Conn::new(alloc, id, link, Desk::new()),
         }
+    }
+
+    /// One that is turned away, with this line.
+    pub fn turned_away(alloc: Global, id: u64, link: L, line: Vec<u8>) -> Seat<L, Desk>
+        requires { IsWelcome (Welcome.Away line) id }
+        ensures { Sits result id (L.flow link) }
+    {
+        Seat {
+            conn: Conn::turned_away(alloc, id, link, Desk::new(), line),
+        }
+    }
+
+    /// Lets memory go that an idle session doesn't need.
+    pub fn shrink(&mut self)
+        ensures { self.new ≡ self.old }
+    {
+        self.conn.shrink();
     }
 
     /// Runs the call that waits in its mailbox, where one does.

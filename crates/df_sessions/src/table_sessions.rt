@@ -7,6 +7,7 @@ ghost use Rattle.df_sessions.specs.Entries.{Meets};
 use crate::gone::Gone;
 use crate::quiet::Quiet;
 use crate::seat::Seat;
+use crate::welcome::Welcome;
 use df_desk::Desk;
 use df_model::{Turn, Why};
 use df_outside::{Came, Door, Link};
@@ -14,9 +15,6 @@ use df_table::Table;
 use std::alloc::Global;
 use std::marker::Model;
 use std::snapshot::Snapshot;
-
-/// Sessions that are open together, at the most. Further links wait at the door.
-const MAX_OPEN: usize = 4096;
 
 /// Turns that a session gets before the next one has its own.
 const SHARE: u32 = 256;
@@ -109,9 +107,9 @@ impl<L: Link> TableSessions<L> {
         ensures start { self.new.start ≡ self.old.start }
         ensures meets { Meets result (D.hall door.old) (D.hall door.new) self.old.count self.new.count }
     {
-        if self.seats.len() >= MAX_OPEN || self.count == u64::MAX {
+        let Some(welcome) = Welcome::of_next(self.alloc, self.seats.len(), self.count) else {
             return Met::Nobody;
-        }
+        };
         let Ok(()) = self.seats.reserve(1) else {
             return Met::Nobody;
         };
@@ -121,7 +119,7 @@ impl<L: Link> TableSessions<L> {
         match door.accept() {
             Came::Link(link) => {
                 self.seats
-                    .push_reserved(Seat::new(self.alloc, self.count, link));
+                    .push_reserved(welcome.seat(self.alloc, self.count, link));
                 self.count += 1;
                 Met::Entered
             }
@@ -155,6 +153,14 @@ impl<L: Link> TableSessions<L> {
         }
     }
 
+    /// Lets memory go that the session at this place doesn't need while it waits.
+    fn shrink(&mut self, at: usize)
+        requires { at < length self.old.seats }
+        ensures { self.new ≡ self.old }
+    {
+        self.seats[at].shrink();
+    }
+
     /// Gives the session at this place turns until it has to wait, has ended or had its share. Says whether it had its
     /// share.
     pub fn visit(&mut self, at: usize, buffer: &mut [u8], quiet: &mut Quiet) -> bool
@@ -168,16 +174,18 @@ impl<L: Link> TableSessions<L> {
             match self.turn(at, buffer) {
                 Turn::Moved => {}
                 Turn::NotYet => {
-                    quiet.note(at, turn > 0);
+                    if quiet.note(at, turn > 0) {
+                        self.shrink(at);
+                    }
                     return false;
                 }
                 Turn::Ended(_) => {
-                    quiet.note(at, true);
+                    let _quiet = quiet.note(at, true);
                     return false;
                 }
             }
         }
-        quiet.note(at, true);
+        let _quiet = quiet.note(at, true);
         true
     }
 

@@ -1,17 +1,17 @@
-use Rattle.std.proofs.Common.{◌≤◌, length, take, drop, sym, subst}
+use Rattle.std.proofs.Common.{◌≤◌, inl, inr, length, take, drop, sym, subst}
 use Rattle.df_model.specs.Values.{Bytes}
 use Rattle.df_model.specs.declared.session.Turn.TheVariants as turns
 use Rattle.df_model.specs.declared.session.Why.TheVariants as ends
 use Rattle.df_outside.specs.Links.{PutOut}
 use Rattle.df_conn.specs.Turns.{Sight, see, Turned}
 use Rattle.df_conn.proofs.FlowLaws.{proven_write_fault}
-use Rattle.df_conn.proofs.LinkLaws.{put_some, put_waits, put_ends}
+use Rattle.df_conn.proofs.LinkLaws.{put_some, put_waits, put_cut, put_none}
 use Rattle.df_conn.proofs.conn.Conn.write.Goals as goal
 
 pub returns-then-stopping-clause-turned : goal.returns-then-stopping-clause-turned
 returns-then-stopping-clause-turned g c =
     let s : Sight = see c.args.self.now.id c.args.self.now.stage (g.C.Caller.calling c.args.self.now.caller) (g.L.Link.flow c.args.self.now.first.value) (g.L.Link.flow c.args.self.now.link) c.args.self.now.talk in
-    put_ends c.args.stopping ends.Stopped s (g.L.Link.flow c.write.new.self) c.requires.going c.requires.writing tt c.in-NotYet.ensures.0 (λ f. tt) c.if-stopping.true
+    put_cut c.args.stopping ends.Stopped c.cut_short-why.result s (g.L.Link.flow c.write.new.self) c.cut_short-why.ensures c.requires.going c.requires.writing tt c.in-NotYet.ensures.0 (λ f. tt) c.if-stopping.true (inr c.if-stopping.true)
 
 pub returns-in-Took-clause-turned : goal.returns-in-Took-clause-turned
 returns-in-Took-clause-turned g c =
@@ -34,9 +34,9 @@ returns-else-stopping-clause-turned g c =
 pub returns-in-Failed-clause-turned : goal.returns-in-Failed-clause-turned
 returns-in-Failed-clause-turned g c =
     let s : Sight = see c.args.self.now.id c.args.self.now.stage (g.C.Caller.calling c.args.self.now.caller) (g.L.Link.flow c.args.self.now.first.value) (g.L.Link.flow c.args.self.now.link) c.args.self.now.talk in
-    put_ends c.args.stopping ends.WriteFault s (g.L.Link.flow c.write.new.self) c.requires.going c.requires.writing tt c.in-Failed.ensures.0 (λ f. proven_write_fault s.first s.flow (g.L.Link.flow c.write.new.self) s.output s.sent f c.in-Failed.ensures.1) c.in-Failed.ensures.1
+    put_cut c.args.stopping ends.WriteFault c.cut_short-why-in-Failed.result s (g.L.Link.flow c.write.new.self) c.cut_short-why-in-Failed.ensures c.requires.going c.requires.writing tt c.in-Failed.ensures.0 (λ f. proven_write_fault s.first s.flow (g.L.Link.flow c.write.new.self) s.output s.sent f c.in-Failed.ensures.1) c.in-Failed.ensures.1 (inl c.in-Failed.ensures.1)
 
 pub returns-in-NoMemory-clause-turned : goal.returns-in-NoMemory-clause-turned
 returns-in-NoMemory-clause-turned g c =
     let s : Sight = see c.args.self.now.id c.args.self.now.stage (g.C.Caller.calling c.args.self.now.caller) (g.L.Link.flow c.args.self.now.first.value) (g.L.Link.flow c.args.self.now.link) c.args.self.now.talk in
-    put_ends c.args.stopping ends.NoMemory s (g.L.Link.flow c.write.new.self) c.requires.going c.requires.writing tt c.in-NoMemory.ensures (λ f. tt) tt
+    put_none c.args.stopping s (g.L.Link.flow c.write.new.self) c.requires.going c.requires.writing c.in-NoMemory.ensures

@@ -1,6 +1,7 @@
-use Rattle.std.proofs.Common.{length, ap, ◌∙◌}
+use Rattle.std.proofs.Common.{length, ap, ◌∙◌, sym, subst}
 use Rattle.std.specs.Prelude.{is_some}
 use Rattle.df_outside.specs.Links.{Flow}
+use Rattle.df_conn.specs.Turns.{IsGoing}
 use Rattle.df_desk.specs.States.{DeskState}
 use Rattle.df_sessions.proofs.SeatLaws.{spent_told}
 use Rattle.df_sessions.proofs.seat.Seat+L+Desk.new.Goals as goal
@@ -12,7 +13,7 @@ returns g c =
     let now : Flow = g.L.Link.flow conn.link in
     let flows = c.new-2.ensures.going.flows in record {
       id_is = c.new-2.ensures.id;
-      is_open = c.new-2.ensures.open;
+      going = subst IsGoing (sym c.new-2.ensures.open) tt;
       none = ap (λ (d : DeskState). d.ran) c.new-2.ensures.caller ∙ c.new.ensures.ran;
       first_is = ap g.L.Link.flow c.new-2.ensures.first;
       limited = λ told. spent_told first.left now.left (length flows.bytes) flows.left (ap (λ l. is_some (g.L.Link.flow l).left) c.new-2.ensures.first ∙ told);

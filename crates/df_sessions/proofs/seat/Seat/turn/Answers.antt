@@ -2,7 +2,7 @@ use Rattle.std.proofs.Common.{◌^◌, ◌<◌, length, refl, ap, subst, arith}
 use Rattle.df_conn.specs.Turns.{Sight, see, waiting}
 use Rattle.df_desk.specs.States.{DeskState}
 use Rattle.df_sessions.specs.Sessions.{Sitting, Sat}
-use Rattle.df_sessions.proofs.SeatLaws.{turned_going, turned_stage, turned_halts, turned_let_in, turned_nearer}
+use Rattle.df_sessions.proofs.SeatLaws.{turned_going, turned_stage, turned_halts, turned_nearer}
 use Rattle.df_sessions.proofs.seat.Seat.turn.Goals as goal
 
 pub invariant_of-self : goal.invariant_of-self
@@ -25,7 +25,6 @@ returns-clause-sat g c =
       id = c.turn-turn.ensures.id;
       first = ap g.L.Link.flow c.turn-turn.ensures.first;
       stage = turned_stage turn stop old new t;
-      halts = turned_halts turn stop old new t;
-      let_in = turned_let_in turn stop old new t;
+      halts = turned_halts turn stop old new after t;
       nearer = turned_nearer turn stop old new before after refl below t;
     }

@@ -11,12 +11,12 @@ use Rattle.df_sessions.proofs.table_sessions.TableSessions.admit.Goals as goal
 pub invariant_of-self-in-Link : goal.invariant_of-self-in-Link
 invariant_of-self-in-Link g c =
     let r = c.self.inside in
-    let s = c.new.result in
+    let s = c.seat.result in
     let seats = c.push_reserved.ensures.items ∙ ap (λ l. l ++ s ∷ []) c.reserve.ensures.items in (
       subst (λ l. Holds r.start.value.keys r.table.keys (r.count + 1) l c.reserve-2.new.self.items) (sym seats)
           (subst (λ l. Holds r.start.value.keys r.table.keys (r.count + 1) (r.seats.items ++ s ∷ []) l) (sym c.reserve-2.ensures.items)
-          (enters r.start.value.keys r.table.keys r.count r.seats.items r.gone.items s c.self.invariant.0 c.new.ensures.id_is c.new.ensures.none (subst IsFresh (sym c.new.ensures.first_is) c.in-Link.ensures.fresh))),
-      subst AllGoing (sym seats) (all_push (λ (x : Sitting). IsGoing x.stage) r.seats.items s c.self.invariant.1 (subst IsGoing (sym c.new.ensures.is_open) tt)),
+          (enters r.start.value.keys r.table.keys r.count r.seats.items r.gone.items s c.self.invariant.0 c.seat.ensures.id_is c.seat.ensures.none (subst IsFresh (sym c.seat.ensures.first_is) c.in-Link.ensures.fresh))),
+      subst AllGoing (sym seats) (all_push (λ (x : Sitting). IsGoing x.stage) r.seats.items s c.self.invariant.1 c.seat.ensures.going),
       omega (arith, c.push_reserved.ensures.len, c.reserve.ensures.len, c.reserve-2.ensures.len, c.in-Ok-reserve.ensures.ok, c.len.ensures),
       subst (EndsFor r.asked) (sym c.reserve-2.ensures.items) c.self.invariant.3,
     )

@@ -1,12 +1,13 @@
-use Rattle.std.proofs.Common.{◌≡◌, ◌<◌, length, set, sym, subst, ap, ◌∙◌, arith}
+use Rattle.std.proofs.Common.{◌≡◌, ◌<◌, true, length, set, sym, subst, ap, ◌∙◌, arith}
 use Rattle.std.specs.List.{swap_remove}
 use Rattle.std.proofs.lemmas.List.{length-set, get_or-set_same}
 use Rattle.df_model.specs.declared.session.Why.{Why}
 use Rattle.df_conn.specs.Turns.{IsGoing}
 use Rattle.df_sessions.specs.Sessions.{Sitting}
 use Rattle.df_conn.specs.declared.conn.Stage.TheVariants as stages
-use Rattle.df_sessions.specs.AllSessions.{AllSessions, Holds, AllGoing, EndsFor, asks_with}
+use Rattle.df_sessions.specs.AllSessions.{AllSessions, Holds, AllGoing, EndsFor, IsToldSo, asks_with}
 use Rattle.df_sessions.proofs.ListLaws.{all_set, all_without_set}
+use Rattle.df_sessions.proofs.SeatLaws.{away_alike}
 use Rattle.df_sessions.proofs.SessionLaws.{serves, leaves, one_ended}
 use Rattle.df_sessions.proofs.table_sessions.TableSessions.turn.Goals as goal
 
@@ -51,11 +52,14 @@ invariant_of-self-in-Ended g c =
     let h = serves r.start.value.keys r.table.keys K r.count seats r.gone.items at was now c.self.invariant.0 lt c.index_mut-seat.ensures.value c.in-Ended.ensures.sat.id c.in-Ended.ensures.sat.first c.in-Ended.ensures.ran in
     let same : removed ≡ now = c.swap_remove-seat.ensures.value ∙ get_or-set_same seats at now removed lt in
     let why : p.why ≡ c.in-Ended.why = over_same p.why c.in-Ended.why (sym c.finish.ensures.over ∙ ap (λ (x : Sitting). x.stage) same ∙ c.in-Ended.ensures.sat.stage) in
+    let told : IsToldSo (r.asked ≡ true) p = λ e.
+    away_alike (r.asked ≡ true) now.id p.id now.first p.first now.flow p.flow (c.finish.ensures.id ∙ ap (λ (x : Sitting). x.id) same) (c.finish.ensures.first ∙ ap (λ (x : Sitting). x.first) same) (c.finish.ensures.flow ∙ ap (λ (x : Sitting). x.flow) same)
+    (c.in-Ended.ensures.sat.halts.1 (sym why ∙ e)) in
     let gone = leaves r.start.value.keys K r.count (set seats at now) r.gone.items at removed p h (omega (arith, lt, length-set seats at now)) c.swap_remove-seat.ensures.value c.finish.ensures.id c.finish.ensures.first c.finish.ensures.told c.finish.ensures.spoken in (
       subst (λ l. Holds r.start.value.keys K r.count l c.push_reserved.new.self.items) (sym c.swap_remove-seat.ensures.items)
           (subst (λ l. Holds r.start.value.keys K r.count (swap_remove (set seats at now) at removed) l) (sym c.push_reserved.ensures.items) gone),
       subst AllGoing (sym c.swap_remove-seat.ensures.items) (all_without_set (λ (x : Sitting). IsGoing x.stage) seats at now removed lt c.self.invariant.1),
       omega (arith, c.self.invariant.2, c.swap_remove-seat.ensures.len, c.push_reserved.ensures.len, c.push_reserved.ensures.capacity),
       subst (λ b. EndsFor b c.push_reserved.new.self.items) (sym c.asks_also-self-inside.ensures)
-          (subst (EndsFor (asks_with r.asked c.in-Ended.why)) (sym c.push_reserved.ensures.items) (one_ended r.asked c.in-Ended.why r.gone.items p c.self.invariant.3 why c.in-Ended.ensures.sat.halts)),
+          (subst (EndsFor (asks_with r.asked c.in-Ended.why)) (sym c.push_reserved.ensures.items) (one_ended r.asked c.in-Ended.why r.gone.items p c.self.invariant.3 why c.in-Ended.ensures.sat.halts.0 told)),
     )
