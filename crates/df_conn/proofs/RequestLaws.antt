@@ -1,27 +1,22 @@
 -- What a request makes of a connection.
-use Rattle.std.proofs.Common.{◌≡◌, inl, inr, ℕ, Bool, [], ◌∷◌, ◌++◌, length, length-append, arith, refl, sym, ap, subst, ◌∙◌, append-nil}
+use Rattle.std.proofs.Common.{◌≡◌, inl, inr, ℕ, Bool, [], ◌∷◌, ◌++◌, length, length-append, arith, refl, sym, ap, subst, append-nil}
 use Rattle.std.specs.Global.{Box}
 use Rattle.df_model.specs.Values.{Bytes}
 use Rattle.df_model.specs.Words.{Words}
-use Rattle.df_model.specs.Replies.{encoding_of}
 use Rattle.df_model.specs.Framing.{Splits}
 use Rattle.df_model.specs.Session.{State}
-use Rattle.df_model.specs.declared.command.Call.{Call}
 use Rattle.df_model.specs.declared.session.BadKind.{BadKind}
 use Rattle.df_model.specs.declared.session.Turn.TheVariants as turns
 use Rattle.df_model.specs.declared.session.Why.TheVariants as ends
-use Rattle.df_model.specs.declared.reply.ErrorText.TheVariants as errors
-use Rattle.df_model.specs.declared.reply.Reply.TheVariants.{Error}
 use Rattle.df_resp.specs.Stream.{Stream}
 use Rattle.df_caller.specs.Calling.{Calling, HasBegun}
 use Rattle.df_caller.specs.declared.slip.Slip.{Slip}
-use Rattle.df_conn.specs.Walked.{Walked, Asked}
+use Rattle.df_conn.specs.Walked.{Walked}
 use Rattle.df_conn.specs.Talks.{Stands, Awaits, IsDry, Stuck, Took}
 use Rattle.df_conn.specs.Turns.{Sight, At, Going, IsGoing, Moves, Turned, Rests, rank}
 use Rattle.df_conn.specs.declared.conn.Stage.TheVariants as stages
 use Rattle.df_conn.specs.declared.talk.Taken.TheVariants as taken
-use Rattle.df_conn.proofs.TurnLaws.{flows_more, flows_same, at_stage, ends_stuck}
-use Rattle.df_conn.proofs.WalkLaws.{asked_not_run}
+use Rattle.df_conn.proofs.TurnLaws.{flows_more, at_stage, ends_stuck}
 
 -- the request was answered
 pub took_reply : (stopping : Bool) (s : Sight) (state : State) (stream : Stream) (output : Bytes) (sent : ℕ) → Going s → s.stage ≡ stages.Open → Took taken.Replied s.sent sent s.state state s.stream stream s.output output

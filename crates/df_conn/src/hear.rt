@@ -93,6 +93,7 @@ fn wrong_count(alloc: Global, name: &str) -> Result<Heard, NoMemory>
 }
 
 /// A command, in the place of the one that was read there last.
+#[inline(always)]
 fn hear_command(alloc: Global, words: &[Bytes], call: &mut Call) -> Result<Heard, NoMemory>
     ensures is { IfOk result (λ heard. heard_of heard call.new ≡ session.heard_as (reads_linked words.now)) }
     ensures heard { IfOk result (λ heard. IsHeard heard call.new) }
@@ -108,6 +109,7 @@ fn hear_command(alloc: Global, words: &[Bytes], call: &mut Call) -> Result<Heard
     }
 }
 
+#[inline(always)]
 fn hear_into(alloc: Global, words: &[Bytes], command: &mut Command) -> Result<Heard, NoMemory>
     ensures is { IfOk result (λ heard. heard_of heard (Single command.new) ≡ session.heard_as (reads_linked words.now)) }
     ensures heard { IfOk result (λ heard. IsHeard heard (Single command.new)) }

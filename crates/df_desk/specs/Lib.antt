@@ -1,5 +1,6 @@
 pub mod Replies
 pub mod Parts
+pub mod Marks
 pub mod Answered
 pub mod States
 pub mod Desks

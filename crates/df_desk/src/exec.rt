@@ -45,7 +45,7 @@ pub(crate) fn run_exec(
     };
     let before = Snapshot::of(table);
     run_each(alloc, commands, table, &mut parts);
-    let ran = Ran::new(call, before, Snapshot::of(&parts));
+    let ran = Ran::exec(call, before, Snapshot::of(&parts));
     match join(parts.as_slice(), reply) {
         Ok(()) => Outcome::Ran(ran),
         Err(_none) => Outcome::Unsaid(ran),

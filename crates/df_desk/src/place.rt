@@ -18,7 +18,7 @@ ghost use Rattle.df_desk.specs.Runs.{CameTo, HasRun, HasServed};
 use crate::exec::run_exec;
 use crate::ran::Ran;
 use df_caller::Slip;
-use df_model::{Call, Command, NoMemory, Reserved, WholeOp};
+use df_model::{Call, Command, NoMemory, WholeOp};
 use df_table::Table;
 use df_values::Pieces;
 use std::alloc::Global;
@@ -106,9 +106,8 @@ fn run_single(
     ensures { CameTo result call.value table.old.keys table.new.keys reply.new }
 {
     let before = Snapshot::of(table);
-    let parts = Reserved::new(alloc);
     match run_command(alloc, command, table, reply) {
-        Ok(()) => Outcome::Ran(Ran::new(call, before, Snapshot::of(&parts))),
+        Ok(()) => Outcome::Ran(Ran::single(call, before)),
         Err(_none) => Outcome::NoMemory,
     }
 }

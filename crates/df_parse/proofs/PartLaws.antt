@@ -1,5 +1,5 @@
 -- What is read among the rows that a word can name is read in the whole table.
-use Rattle.std.proofs.Common.{◌≡◌, ℕ, ◌<◌, ◌≤◌, ◌⊎◌, ◌&&◌, leb, arith, subst, List, [], ◌∷◌, refl, sym, ap, ◌∙◌, length, Bool, true, false, eqb}
+use Rattle.std.proofs.Common.{◌≡◌, ℕ, ◌<◌, ◌≤◌, ◌⊎◌, ◌&&◌, leb, arith, List, [], ◌∷◌, refl, sym, ap, ◌∙◌, length, Bool, true, false, eqb}
 use mathlib.Core.Logic.{inl, inr}
 use Rattle.std.specs.Str.{str_to_ascii_lowercase}
 use Rattle.std.specs.Char.{to_ascii_lowercase}

@@ -9,7 +9,7 @@ use Rattle.df_model.specs.declared.session.Turn.TheVariants as turns
 use Rattle.df_model.specs.declared.session.Why.{Why}
 use Rattle.df_outside.specs.Links.{Flow}
 use Rattle.df_caller.specs.Told.{Told, told_items}
-use Rattle.df_conn.specs.Turns.{IsGoing, session_of}
+use Rattle.df_conn.specs.Turns.{session_of}
 use Rattle.df_conn.specs.declared.conn.Stage.TheVariants as stages
 use Rattle.df_desk.specs.OneTable.{cons_if, of_session, IsByPlace, with_ran}
 use Rattle.df_desk.proofs.TableLaws.{tables_go_on, tables_end}

@@ -27,12 +27,7 @@ pub fn run<S: Source + Send, O: Sink + Send>(alloc: Global, input: S, out: O) ->
     let Ok(mut buffer) = vec![in alloc; 0u8; READ_SIZE] else {
         return (4, input, out);
     };
-    let seat = Seat::new(
-        alloc,
-        0,
-        PairLink::new(input, out, INPUT_LIMIT),
-        Welcome::In,
-    );
+    let seat = Seat::new(alloc, 0, PairLink::new(input, out, INPUT_LIMIT));
     let Gone {
         end,
         first: _,

@@ -2,8 +2,8 @@
 //! count of words that it takes and with one that it refuses, names and options in any case.
 
 use bytes::Bytes;
-use df_model::{Command, ErrorText, NoMemory};
-use df_parse::{Refusal, read_command, read_linked};
+use df_model::{Command, ErrorText, NoMemory, WholeOp};
+use df_parse::{Refusal, read_into, read_linked};
 use std::alloc::Global;
 
 #[test]
@@ -44,7 +44,9 @@ fn all_commands_but_save_run_so_far(rt: HostRuntime) -> Result<(), NoMemory> {
     ];
     for (request, wanted) in table {
         let words = words_of(rt.alloc(), request)?;
-        let spelled = kind_of(&read_linked(rt.alloc(), words.as_slice()));
+        let mut command = Command::Whole(WholeOp::Dbsize);
+        let answer = read_linked(rt.alloc(), words.as_slice(), &mut command);
+        let spelled = kind_of(&answer, &command);
         assert_eq!(rt; spelled, wanted, "{request}");
     }
     Ok(())
@@ -58,7 +60,9 @@ fn first_misread<'a>(
 ) -> Result<Option<&'a str>, NoMemory> {
     for request in requests.lines() {
         let words = words_of(alloc, request)?;
-        if kind_of(&read_command(alloc, words.as_slice())) != wanted {
+        let mut command = Command::Whole(WholeOp::Dbsize);
+        let answer = read_into(alloc, words.as_slice(), &mut command);
+        if kind_of(&answer, &command) != wanted {
             return Ok(Some(request));
         }
     }
@@ -73,18 +77,9 @@ fn words_of(alloc: Global, request: &str) -> Result<Vec<Bytes>, NoMemory> {
     Ok(words)
 }
 
-fn kind_of(answer: &Result<Command, Refusal>) -> &'static str {
+fn kind_of(answer: &Result<(), Refusal>, command: &Command) -> &'static str {
     match answer {
-        Ok(Command::Plain(_)) => "plain",
-        Ok(Command::One(_, _)) => "one key",
-        Ok(Command::Many(_)) => "several keys",
-        Ok(Command::Whole(_)) => "whole keyspace",
-        Ok(Command::Wrong(ErrorText::Syntax)) => "wrong syntax",
-        Ok(Command::Wrong(ErrorText::NotInteger)) => "no number",
-        Ok(Command::Wrong(ErrorText::Arity(_))) => "unpaired",
-        Ok(Command::Wrong(ErrorText::DbIndex)) => "other database",
-        Ok(Command::Wrong(ErrorText::OffsetRange)) => "offset",
-        Ok(Command::Wrong(_)) => "wrong",
+        Ok(()) => kind_of_command(command),
         Err(Refusal::Unknown) => "unknown",
         Err(Refusal::Arity(_)) => "wrong count",
         Err(Refusal::NoMemory) => "no memory",
@@ -305,4 +300,19 @@ FLUSHALLNOWX
 LPUSHY k a
 HGETX k f
 SINTERS k"
+}
+
+fn kind_of_command(command: &Command) -> &'static str {
+    match command {
+        Command::Plain(_) => "plain",
+        Command::One(_, _) => "one key",
+        Command::Many(_) => "several keys",
+        Command::Whole(_) => "whole keyspace",
+        Command::Wrong(ErrorText::Syntax) => "wrong syntax",
+        Command::Wrong(ErrorText::NotInteger) => "no number",
+        Command::Wrong(ErrorText::Arity(_)) => "unpaired",
+        Command::Wrong(ErrorText::DbIndex) => "other database",
+        Command::Wrong(ErrorText::OffsetRange) => "offset",
+        Command::Wrong(_) => "wrong",
+    }
 }

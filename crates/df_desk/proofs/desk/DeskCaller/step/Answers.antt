@@ -1,4 +1,4 @@
-use Rattle.std.proofs.Common.{◌≡◌, refl, sym, ap, subst, ◌∙◌, ◌++◌}
+use Rattle.std.proofs.Common.{◌≡◌, sym, ap, subst, ◌∙◌, ◌++◌}
 use Rattle.df_model.specs.Replies.{encoding_of}
 use Rattle.df_caller.specs.Calling.{Answers}
 use Rattle.df_desk.specs.States.{DeskState}
