@@ -6,7 +6,6 @@ use prog.Atomic.{either}
 use Rattle.atomic_table.specs.Table.{step, keeps, Allows, Splits}
 use Rattle.df_log.specs.declared.entry.Entry.{Entry}
 use Rattle.df_book.specs.Weights.{total, below, Each, head_or, tail}
-use Rattle.df_book.specs.Logs.{at_log}
 use Rattle.df_book.specs.Draws.{draws_of, last_number}
 use Rattle.df_book.specs.Views.{noting, cut_of, after_cut, cut_off, after_shard, shard_off, ticket_off, made_running, running_off, receipt_off}
 use Rattle.df_book.specs.Rule.{pair_of, Owner, Fits, second, Kept}
@@ -17,7 +16,6 @@ use Rattle.df_book.specs.declared.view.Note.{Note}
 use Rattle.df_book.specs.declared.view.Note.TheVariants as note
 use Rattle.df_book.specs.declared.view.View.{View}
 use Rattle.df_book.proofs.Sums.{Each-append, total-append, total-set, terms_le, total-only, hit-same}
-use Rattle.df_book.proofs.Logs.{within-with}
 use Rattle.df_book.proofs.Moves.{St, moved, same-sessions, quiet, same-word}
 
 fits-noting : (book : List Draw) (logs : List (List Entry)) (v : View) (x : Note) → Fits book logs v → Fits book logs (noting v x)
@@ -105,9 +103,9 @@ runs n id v some-drawn s k at = let f = k.each id v at in let l = made_running v
     record { own = tt; known = f.own; seen = f.seen; left = λ s. tt; right = λ s. tt; owner = tt; caller = λ a b. (refl, refl, refl); splits = λ a. refl; made = tt }
 
 pub receipts : (n id : ℕ) (v : View) → Splits (Kept n) id v v (receipt_off v)
-receipts n id v s k at = let f = k.each id v at in let h = head_or 0 v.owns in
+receipts n id v s k at = let f = k.each id v at in
     splits-off n s k id v v (receipt_off v) at (omega arith) (λ f. omega arith) (same-sessions n s k id v v (receipt_off v ∷ []) at refl refl refl (λ f. refl)) (omega arith) (λ f. omega arith) (λ f. omega arith) f
-    record { own = tt; known = f.known; seen = within-with [] k.logs h (at_log v.seen h) (λ i. tt) (f.seen h); left = λ i. tt; right = λ i. tt; owner = tt; caller = λ a b. (refl, refl, refl); splits = λ a. refl; made = tt }
+    record { own = tt; known = f.known; seen = f.seen; left = λ i. tt; right = λ i. tt; owner = tt; caller = λ a b. (refl, refl, refl); splits = λ a. refl; made = tt }
 
 -- a shard's pass is cut off the first
 pub shards : (n id : ℕ) (v : View) (a : ℕ) (b : List ℕ) → v.owns ≡ a ∷ b → v.counted ≡ [] → Splits (Kept n) id v (after_shard v) (shard_off v)

@@ -130,5 +130,9 @@ settles n slots id m s k deep at low = let v = m.0 in let f = k.each id v at in 
   keeps,
   tt,
   quiet n s k id v v (set s.words 0 (get_or s.words 0 0)) (set-get_or s.words 0 0) at refl refl refl refl refl refl refl refl refl f,
-  (refl, λ all. settled n s k id v all at),
+  (
+    refl,
+    (λ all. settled n s k id v all at),
+    λ i. omega (arith, k.seated (hit i), term_le (λ (u : View). total (hit i) u.sessions) s.views id v at, (below-hit i (total (λ (u : View). u.splits) s.views)).0),
+  ),
 )

@@ -11,3 +11,4 @@ pub mod Ending
 pub mod Showing
 pub mod Taking
 mod Deals
+pub mod Running

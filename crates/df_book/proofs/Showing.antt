@@ -1,10 +1,10 @@
 -- What contracts see after a step.
-use Rattle.std.proofs.Common.{◌≡◌, ◌≢◌, ◌⊎◌, ℕ, zero, suc, ◌+◌, ◌≤◌, List, [], ◌∷◌, ◌++◌, cond, eq-eqb, sym, refl, ap, ◌∙◌, subst, inl, inr, ⊎_elim, arith}
+use Rattle.std.proofs.Common.{◌≡◌, ◌≢◌, ◌⊎◌, ℕ, ◌+◌, ◌≤◌, List, [], ◌∷◌, ◌++◌, cond, eq-eqb, sym, refl, ap, ◌∙◌, subst, inl, inr, ⊎_elim, arith}
 use mathlib.Core.Logic.{dite}
 use native.Mathlib.Decide.{ℕ_discrete}
 use Rattle.df_log.specs.declared.entry.Entry.{Entry}
 use Rattle.df_book.specs.Weights.{total, Each, hit, count, head_or}
-use Rattle.df_book.specs.Logs.{at_log, with_log, alone, IsPrefix, Within, longer, BothSeen, uses, uses_of, HasRoom}
+use Rattle.df_book.specs.Logs.{at_log, with_log, IsPrefix, Within, longer, BothSeen, uses, uses_of, HasRoom}
 use Rattle.df_book.specs.Passes.{BookName, receipt_of, after_entry, after_ticket, met}
 use Rattle.df_book.specs.Shown.{shard_seen, receipt_seen, ticket_seen, numbers_of}
 use Rattle.df_book.specs.Views.{receipt_off, entered, longer_each, own_first, pooled, for_log, merged, learned}
@@ -37,36 +37,16 @@ both-seen v w m e p q =
 
 -- ---- receipts
 
-alone-longer : (s : ℕ) (a b : List Entry) → longer_each (alone s a) (alone s b) ≡ alone s (longer a b)
-alone-longer zero a b = refl
-alone-longer (suc s) a b = ap (λ (l : List (List Entry)). [] ∷ l) (alone-longer s a b)
-
--- it shows one log, and nothing of others
-abbrev pub ShowsOne : View → Type 0
-ShowsOne v = v.seen ≡ alone v.shows (at_log v.seen v.shows)
-
-pooled-alone : (v w : View) → v.owns ≡ [] → w.owns ≡ [] → ShowsOne v → ShowsOne w → w.shows ≡ v.shows → pooled v w ≡ alone v.shows (longer (at_log v.seen v.shows) (at_log w.seen w.shows))
-pooled-alone v w a b p q same =
+pub shows-longer : (z : BookName) (v w : View) → v.owns ≡ [] → w.owns ≡ [] → w.shows ≡ v.shows → receipt_seen z (learned (merged v w)) ≡ met (receipt_seen z v) (receipt_seen z w) (pooled v w)
+shows-longer z v w a b same =
     let L = longer_each v.seen w.seen in
-    ap (λ (o : List ℕ). own_first o v.seen (own_first w.owns w.seen L)) a ∙ ap (λ (o : List ℕ). own_first o w.seen L) b
-    ∙ (λ i. longer_each (p i) (q i)) ∙ ap (λ (s : ℕ). longer_each (alone v.shows (at_log v.seen v.shows)) (alone s (at_log w.seen w.shows))) same
-    ∙ alone-longer v.shows (at_log v.seen v.shows) (at_log w.seen w.shows)
-
-pub shows-one : (v w : View) → v.owns ≡ [] → w.owns ≡ [] → ShowsOne v → ShowsOne w → w.shows ≡ v.shows → ShowsOne (learned (merged v w))
-shows-one v w a b p q same = let e = pooled-alone v w a b p q same in
-    e ∙ ap (alone v.shows) (sym (ap (λ (l : List (List Entry)). at_log l v.shows) e ∙ at-with [] v.shows (longer (at_log v.seen v.shows) (at_log w.seen w.shows))))
-
-pub shows-longer : (z : BookName) (v w : View) → v.owns ≡ [] → w.owns ≡ [] → ShowsOne v → ShowsOne w → w.shows ≡ v.shows → receipt_seen z (learned (merged v w)) ≡ met (receipt_seen z v) (receipt_seen z w)
-shows-longer z v w a b p q same = let e = pooled-alone v w a b p q same in
-    ap (λ (l : List Entry). record { book = z; shard = v.shows; log = l; known = v.known ++ w.known }) (ap (λ (l : List (List Entry)). at_log l v.shows) e ∙ at-with [] v.shows (longer (at_log v.seen v.shows) (at_log w.seen w.shows)))
+    let e : pooled v w ≡ L = ap (λ (o : List ℕ). own_first o v.seen (own_first w.owns w.seen L)) a ∙ ap (λ (o : List ℕ). own_first o w.seen L) b in
+    let log : at_log (pooled v w) v.shows ≡ longer (at_log v.seen v.shows) (at_log w.seen w.shows) = ap (λ (l : List (List Entry)). at_log l v.shows) e ∙ at-longer v.seen w.seen v.shows ∙ ap (λ (s : ℕ). longer (at_log v.seen v.shows) (at_log w.seen s)) (sym same) in
+    (λ i. record { book = z; shard = v.shows; log = log i; known = v.known ++ w.known; seen = pooled v w })
 
 pub receipt-shows : (z : BookName) (s : ℕ) (v : View) → v.owns ≡ s ∷ [] → receipt_seen z (receipt_off v) ≡ receipt_of (shard_seen z s v)
 receipt-shows z s v one = let h : head_or 0 v.owns ≡ s = ap (head_or 0) one in
-    let l : at_log (alone (head_or 0 v.owns) (at_log v.seen (head_or 0 v.owns))) (head_or 0 v.owns) ≡ at_log v.seen s = at-with [] (head_or 0 v.owns) (at_log v.seen (head_or 0 v.owns)) ∙ ap (at_log v.seen) h in
-    (λ i. record { book = z; shard = h i; log = l i; known = v.known })
-
-pub receipt-alone : (v : View) → ShowsOne (receipt_off v)
-receipt-alone v = let h = head_or 0 v.owns in ap (alone h) (sym (at-with [] h (at_log v.seen h)))
+    (λ i. record { book = z; shard = h i; log = at_log v.seen (h i); known = v.known; seen = v.seen })
 
 -- ---- shards
 

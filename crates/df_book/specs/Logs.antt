@@ -18,10 +18,6 @@ with_log [] (suc s) x = [] ∷ with_log [] s x
 with_log (y ∷ ys) zero x = x ∷ ys
 with_log (y ∷ ys) (suc s) x = y ∷ with_log ys s x
 
--- one log alone
-abbrev pub alone : ℕ → List Entry → List (List Entry)
-alone s log = with_log [] s log
-
 -- ---- beginnings
 
 abbrev pub IsPrefix : List Entry → List Entry → Type 0
@@ -106,6 +102,8 @@ is_passed Passed = true
 is_passed Pull = false
 is_passed Saved = false
 
--- but for Passed notes, no hop of a call has two entries in a log
+-- but for Passed notes, no hop of a call has two entries in a log, and none two notes
 abbrev pub IsFresh : List Entry → Entry → Type 0
-IsFresh log e = is_passed e.act ≡ false → Each (λ (x : Entry). is_passed x.act ≡ false → x.number ≡ e.number → x.hop ≢ e.hop) log
+IsFresh log e =
+    is_passed e.act ≡ false →
+    Each (λ (x : Entry). is_passed x.act ≡ false → is_note x.act ≡ is_note e.act → x.number ≡ e.number → x.hop ≢ e.hop) log

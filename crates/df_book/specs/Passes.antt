@@ -114,13 +114,16 @@ pub record Receipt : Type 0 where
   pub log : List Entry
   -- what the shard knew of draws
   pub known : List Draw
+  -- a beginning of each log, as the shard had seen it
+  pub seen : List (List Entry)
 
 abbrev pub receipt_of : Shard → Receipt
-receipt_of p = record { book = p.book; shard = p.shard; log = p.log; known = p.known }
+receipt_of p = record { book = p.book; shard = p.shard; log = p.log; known = p.known; seen = p.seen }
 
 -- where this is seen of the logs now
 abbrev pub after_receipt : Caller → Receipt → List (List Entry) → Caller
 after_receipt p r seen = record p { known = p.known ++ r.known; seen = seen }
 
-abbrev pub met : Receipt → Receipt → Receipt
-met r q = record r { log = longer r.log q.log; known = r.known ++ q.known }
+-- where this is seen of the logs now
+abbrev pub met : Receipt → Receipt → List (List Entry) → Receipt
+met r q seen = record r { log = longer r.log q.log; known = r.known ++ q.known; seen = seen }

@@ -19,7 +19,7 @@ abbrev pub shard_seen : BookName → ℕ → View → Shard
 shard_seen z s v = record { book = z; shard = s; log = at_log v.seen s; known = v.known; counted = numbers_of v.counted; seen = v.seen }
 
 abbrev pub receipt_seen : BookName → View → Receipt
-receipt_seen z v = record { book = z; shard = v.shows; log = at_log v.seen v.shows; known = v.known }
+receipt_seen z v = record { book = z; shard = v.shows; log = at_log v.seen v.shows; known = v.known; seen = v.seen }
 
 abbrev pub closed_of : View → Closed
 closed_of v = record { logs = v.seen; draws = v.own; made = v.made; known = v.known }

@@ -59,5 +59,9 @@ EachJoined v = (v.first ≡ 1) × ((i : ℕ) → i < v.splits → 0 < count i v.
 abbrev pub Counted : Step Said → Sat → ℕ → Sat → Type 0
 Counted s m found m' = (m' ≡ m) × (0 < found) × (EachJoined m.0 → Numbered m.0.own × (found ≡ suc (length m.0.own)))
 
+-- no pass that was split off is there twice
+abbrev pub SessionsOnce : View → Type 0
+SessionsOnce v = (i : ℕ) → count i v.sessions ≤ 1
+
 abbrev pub Settles : Step Said → Sat → ℕ → Sat → Type 0
-Settles s m found m' = (m' ≡ m) × (EachJoined m.0 → Settled (closed_of m.0))
+Settles s m found m' = (m' ≡ m) × (EachJoined m.0 → Settled (closed_of m.0)) × SessionsOnce m.0

@@ -3,7 +3,7 @@ use Rattle.std.specs.Prelude.{ℕ, suc, ◌+◌, ◌-◌, List, [], ◌∷◌, �
 use Rattle.df_model.specs.declared.command.Call.{Call}
 use Rattle.df_log.specs.declared.entry.Entry.{Entry}
 use Rattle.df_book.specs.Weights.{head_or, tail, from_on}
-use Rattle.df_book.specs.Logs.{at_log, with_log, alone, longer, floor_of}
+use Rattle.df_book.specs.Logs.{at_log, with_log, longer, floor_of}
 use Rattle.df_book.specs.Draws.{last_number}
 use Rattle.df_book.specs.declared.draw.Draw.{Draw}
 use Rattle.df_book.specs.declared.view.Note.{Note}
@@ -63,7 +63,7 @@ abbrev pub running_off : View → View
 running_off v = record blank { known = v.own; seen = v.seen; runs = last_number v.own ∷ [] }
 
 abbrev pub receipt_off : View → View
-receipt_off v = record blank { known = v.known; shows = head_or 0 v.owns; seen = alone (head_or 0 v.owns) (at_log v.seen (head_or 0 v.owns)) }
+receipt_off v = record blank { known = v.known; shows = head_or 0 v.owns; seen = v.seen }
 
 -- ---- two seats become one, and then learn that what they had seen fits
 

@@ -8,7 +8,7 @@
 //! A caller shows a shard what it drew and saw by a ticket, and the shard shows its log by a receipt.
 ghost use Rattle.std.specs.Prelude.{◌≡◌, ◌+◌, ◌<◌, ◌≤◌, ◌^◌, ℕ, length, true, false};
 ghost use Rattle.df_book.specs.Weights.{Each, count};
-ghost use Rattle.df_book.specs.Logs.{AllBelow, BothSeen, alone};
+ghost use Rattle.df_book.specs.Logs.{AllBelow, BothSeen, at_log};
 ghost use Rattle.df_book.specs.Draws.{Bounded, OwnAgreed};
 ghost use Rattle.df_book.specs.Passes.{after_draw, after_receipt, after_running, after_split, joined, running_of, split_off, ticket_of};
 
@@ -102,11 +102,12 @@ impl BookOf<Said, Ruling> {
         }
     }
 
-    /// The caller has then seen the log of the receipt, or more of it.
+    /// The caller has then seen the log of the receipt, or more of it, and of each other log what the shard had seen.
     pub fn take_receipt(&self, pass: &mut CallerPass, receipt: Receipt)
         requires book { (pass.old.book ≡ self.now) × (receipt.book ≡ pass.old.book) }
         ensures taken { pass.new ≡ after_receipt pass.old receipt pass.new.seen }
-        ensures seen { BothSeen pass.old.seen (alone receipt.shard receipt.log) pass.new.seen }
+        ensures seen { BothSeen pass.old.seen receipt.seen pass.new.seen }
+        ensures shown { at_log receipt.seen receipt.shard ≡ receipt.log }
         // So its calls have no entries but those that it made running tickets for.
         ensures bounded { Bounded pass.new.own pass.new.made pass.new.seen }
         ensures agreed { OwnAgreed pass.new.own pass.new.known }

@@ -1,12 +1,12 @@
 //! The end of a book.
-ghost use Rattle.std.specs.Prelude.{◌≡◌, [], ◌∷◌, length};
-ghost use Rattle.df_book.specs.Weights.{Each};
+ghost use Rattle.std.specs.Prelude.{◌≡◌, ◌≤◌, ℕ, [], ◌∷◌, length};
+ghost use Rattle.df_book.specs.Weights.{Each, count};
 ghost use Rattle.df_book.specs.Logs.{Within, at_log};
 ghost use Rattle.df_book.specs.Draws.{IsDraw, Numbered};
 ghost use Rattle.df_book.specs.Passes.{AllJoined};
 ghost use Rattle.df_book.specs.Closed.{Settled};
 ghost use Rattle.df_book.specs.Shown.{closed_of};
-ghost use Rattle.df_book.specs.Steps.{EachJoined};
+ghost use Rattle.df_book.specs.Steps.{EachJoined, SessionsOnce};
 ghost use Rattle.df_book.specs.Taken.{TakesAll};
 
 use crate::book::BookOf;
@@ -70,6 +70,7 @@ impl BookOf<Said, Ruling> {
         requires joined { EachJoined first.me.0 }
         ensures view { result ≡ closed_of first.me.0 }
         ensures settled { Settled (closed_of first.me.0) }
+        ensures sessions { SessionsOnce first.me.0 }
     {
         self.table.shared.load::<Settle>(&mut first, 0);
         let BookOf { table } = self;
@@ -87,6 +88,8 @@ impl BookOf<Said, Ruling> {
         ensures whole { Each (λ p. at_log result.logs p.shard ≡ p.log) shards.items }
         ensures known { Each (λ p. Each (IsDraw result.draws) p.known) shards.items }
         ensures settled { Settled result }
+        // Each place among the split passes is that of one of these.
+        ensures sessions { (i : ℕ) → count i caller.sessions ≤ 1 }
     {
         let CallerPassOf {
             budget: _,

@@ -89,7 +89,7 @@ impl<S> Model for TicketOf<S> {
     ghost invariant = { λ p. (p.seat.me.1 ≡ []) × (p.seat.me.0.first ≡ 0) × (p.seat.me.0.owns ≡ []) × (p.seat.me.0.own ≡ []) × (p.seat.me.0.made ≡ []) × (p.seat.me.0.counted ≡ []) };
 }
 
-/// A copy of a shard's log, for a caller.
+/// A copy of a shard's log and of what the shard had seen, for a caller.
 #[derive(Drop)]
 pub struct ReceiptOf<S> {
     pub(crate) seat: Seat<S, View>,
@@ -98,7 +98,6 @@ pub struct ReceiptOf<S> {
 impl<S> Model for ReceiptOf<S> {
     ghost use Rattle.std.specs.Prelude.{◌≡◌, []};
     ghost use Rattle.df_book.specs.Passes.{Receipt};
-    ghost use Rattle.df_book.specs.Logs.{alone, at_log};
 
     ghost Value = { Receipt };
 
@@ -113,7 +112,7 @@ impl<S> Model for ReceiptOf<S> {
 
     ghost view = { λ p. receipt_seen p.seat.table_id p.seat.me.0 };
 
-    ghost invariant = { λ p. (p.seat.me.1 ≡ []) × (p.seat.me.0.first ≡ 0) × (p.seat.me.0.owns ≡ []) × (p.seat.me.0.own ≡ []) × (p.seat.me.0.made ≡ []) × (p.seat.me.0.budget ≡ 0) × (p.seat.me.0.sessions ≡ []) × (p.seat.me.0.seen ≡ alone p.seat.me.0.shows (at_log p.seat.me.0.seen p.seat.me.0.shows)) };
+    ghost invariant = { λ p. (p.seat.me.1 ≡ []) × (p.seat.me.0.first ≡ 0) × (p.seat.me.0.owns ≡ []) × (p.seat.me.0.own ≡ []) × (p.seat.me.0.made ≡ []) × (p.seat.me.0.budget ≡ 0) × (p.seat.me.0.sessions ≡ []) };
 }
 
 pub type CallerPass = CallerPassOf<Said>;

@@ -55,7 +55,8 @@ impl BookOf<Said, Ruling> {
     pub fn meet(&self, into: &mut Receipt, from: Receipt)
         requires book { (into.old.book ≡ self.now) × (from.book ≡ into.old.book) }
         requires shard { from.shard ≡ into.old.shard }
-        ensures met { into.new ≡ met into.old from }
+        ensures met { into.new ≡ met into.old from into.new.seen }
+        ensures seen { BothSeen into.old.seen from.seen into.new.seen }
         ensures prefix { IsPrefix into.old.log into.new.log × IsPrefix from.log into.new.log }
     {
         let ReceiptOf { seat } = from;

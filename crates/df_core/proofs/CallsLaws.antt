@@ -4,7 +4,7 @@ use Rattle.std.specs.Prelude.{None, is_none, ◌&&◌}
 use Rattle.df_model.specs.declared.command.Call.{Call}
 use Rattle.df_footprints.specs.Footprints.{footprint_of}
 use Rattle.df_order.specs.Model.{Laws, names_none}
-use Rattle.df_world.proofs.OneList.{names_none_at}
+use Rattle.df_order.proofs.LogsAlone.{names_none_at}
 use Rattle.df_core.specs.Steps.{steps_of}
 use Rattle.df_core.specs.Calls.{calls}
 use Rattle.df_core.proofs.StepLaws.{after_entries}

@@ -129,6 +129,7 @@ module _ (shards : ℕ) (pos : 0 < shards) where
   done_hopless : (i : ℕ) (command : Command) (own : ℕ → List Step) (kept : Bool) (reply : Reply) →
       Done shards i command own kept reply → ((s : ℕ) → own s ≡ []) → Hopless shards command
   done_hopless i command own _ _ (Done.nowhere e n) h = ap has_hop e
+  done_hopless i command own _ _ (Done.nowhere_wanted e n) h = ap has_hop e
   done_hopless i command own _ _ (Done.ran s reply e x n) h = cons_nil _ _ (sym x ∙ h s)
   done_hopless i command own _ _ (Done.run_wanted s e x n) h = cons_nil _ _ (sym x ∙ h s)
   done_hopless i command own _ _ (Done.changed K e shows some) h = spread_hopless command e (λ s. shows_none i s command K (own s) (shows s) (h s))
@@ -137,7 +138,7 @@ module _ (shards : ℕ) (pos : 0 < shards) where
   done_hopless i command own _ _ (Done.undone K e undoes some) h = spread_hopless command e (λ s. undoes_none i s command K (own s) (undoes s) (h s))
   done_hopless i command own _ _ (Done.names pattern names e on) h = cons_nil _ _ (sym (on.within 0 pos) ∙ h 0)
   done_hopless i command own _ _ (Done.counts numbers e on) h = cons_nil _ _ (sym (on.within 0 pos) ∙ h 0)
-  done_hopless i command own _ _ (Done.names_wanted pattern told e on w) h = cons_nil _ _ (sym (on.within 0 pos) ∙ h 0)
+  done_hopless i command own _ _ (Done.names_wanted pattern told e on) h = cons_nil _ _ (sym (on.within 0 pos) ∙ h 0)
   done_hopless i command own _ _ (Done.counts_wanted told e on w) h = cons_nil _ _ (sym (on.within 0 pos) ∙ h 0)
   done_hopless i command own _ _ (Done.cuts pairs reply e on w) h = cons_nil _ _ (sym (on.within 0 pos) ∙ h 0)
   done_hopless i command own _ _ (Done.cleared e on) h = cons_nil _ _ (sym (on.within 0 pos) ∙ h 0)
@@ -214,6 +215,7 @@ done_bare : (shards i : ℕ) (command : Command) (own : ℕ → List Step) (kept
     Done shards i command own kept reply → (s : ℕ) → through (own s) [] ≡ []
 unfolding through Bare
 done_bare shards i command own _ _ (Done.nowhere e n) s = ap (λ l. through l []) (n s)
+done_bare shards i command own _ _ (Done.nowhere_wanted e n) s = ap (λ l. through l []) (n s)
 done_bare shards i command own _ _ (Done.ran t reply e x n) s = one_shard Bare own t _ x n refl refl s
 done_bare shards i command own _ _ (Done.run_wanted t e x n) s = one_shard Bare own t _ x n refl refl s
 done_bare shards i command own _ _ (Done.changed K e shows some) s = shows_bare shards i s command K (own s) (shows s)
@@ -222,7 +224,7 @@ done_bare shards i command own _ _ (Done.stopped e stops) s = stops_bare shards 
 done_bare shards i command own _ _ (Done.undone K e undoes some) s = undoes_bare shards i s command K (own s) (undoes s)
 done_bare shards i command own _ _ (Done.names pattern names e on) s = each_shard Bare shards own _ on refl (λ t. refl) s
 done_bare shards i command own _ _ (Done.counts numbers e on) s = each_shard Bare shards own _ on refl (λ t. refl) s
-done_bare shards i command own _ _ (Done.names_wanted pattern told e on w) s =
+done_bare shards i command own _ _ (Done.names_wanted pattern told e on) s =
     each_shard Bare shards own _ on refl (λ t. either_way (did (told t)) []) s
 done_bare shards i command own _ _ (Done.counts_wanted told e on w) s = each_shard Bare shards own _ on refl (λ t. either_way (did (told t)) []) s
 done_bare shards i command own _ _ (Done.cuts pairs reply e on w) s = each_shard Bare shards own _ on refl (λ t. refl) s

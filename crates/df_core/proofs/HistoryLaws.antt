@@ -21,7 +21,7 @@ use Rattle.df_core.specs.History.{Draw, with_draw}
 use Rattle.df_core.specs.Laws.{LogsAreOneHistory, SavesStandInTheHistory}
 use Rattle.df_core.specs.Steps.{Step, step_of, steps_of}
 use Rattle.df_model.specs.declared.command.Call.{Call}
-use Rattle.df_core.specs.Done.{Done, Gives, nowhere, ran, run_wanted, changed, looked, stopped, undone, names, counts, names_wanted, counts_wanted, cuts, cleared, kept_all, first_step}
+use Rattle.df_core.specs.Done.{Done, Gives, nowhere, nowhere_wanted, ran, run_wanted, changed, looked, stopped, undone, names, counts, names_wanted, counts_wanted, cuts, cleared, kept_all, first_step}
 use Rattle.df_core.proofs.StepLaws.{told_cut}
 use Rattle.df_core.proofs.JoinedLaws.{held_own, held_joined}
 use Rattle.df_log.specs.Acts.{Told, Begin, Cut}
@@ -57,6 +57,7 @@ begins : (shards : ℕ) (steps : ℕ → List Step) (kept : Bool) (reply : Reply
     Done shards 0 (Whole wholes.Save) steps kept reply → (s : ℕ) → s < shards →
     (told : Told) × (steps s ≡ first_step 0 Begin told ∷ [])
 begins shards steps kept reply (nowhere e none) s lt = cc
+begins shards steps kept reply (nowhere_wanted e none) s lt = cc
 begins shards steps kept reply (ran t r e here there) s lt = cc
 begins shards steps kept reply (run_wanted t e here there) s lt = cc
 begins shards steps kept reply (changed K e shows some) s lt = cc
@@ -65,7 +66,7 @@ begins shards steps kept reply (stopped e stops) s lt = cc
 begins shards steps kept reply (undone K e undoes some) s lt = cc
 begins shards steps kept reply (names p ns e each) s lt = cc
 begins shards steps kept reply (counts ns e each) s lt = cc
-begins shards steps kept reply (names_wanted p told e each some) s lt = cc
+begins shards steps kept reply (names_wanted p told e each) s lt = cc
 begins shards steps kept reply (counts_wanted told e each some) s lt = cc
 begins shards steps kept reply (cuts pairs r e each is) s lt = (Cut (pairs s), each.within s lt)
 begins shards steps kept reply (cleared e each) s lt = cc

@@ -111,6 +111,7 @@ module _ (shards i : ℕ) (command : Command) where
   pub done_of : (own : ℕ → List Step) (kept : Bool) (reply : Reply) → Done shards i command own kept reply → (s : ℕ) →
       Of i (own s)
   done_of own _ _ (Done.nowhere e n) s = subst (Of i) (sym (n s)) tt
+  done_of own _ _ (Done.nowhere_wanted e n) s = subst (Of i) (sym (n s)) tt
   done_of own _ _ (Done.ran t reply e x n) s = one_shard (Of i) own t _ x n tt (hop_0 i, tt) s
   done_of own _ _ (Done.run_wanted t e x n) s = one_shard (Of i) own t _ x n tt (hop_0 i, tt) s
   done_of own _ _ (Done.changed K e shows some) s = shows_of s K (own s) (shows s)
@@ -119,7 +120,7 @@ module _ (shards i : ℕ) (command : Command) where
   done_of own _ _ (Done.undone K e undoes some) s = undoes_of s K (own s) (undoes s)
   done_of own _ _ (Done.names pattern names e on) s = each_shard (Of i) shards own _ on tt (λ t. (hop_0 i, tt)) s
   done_of own _ _ (Done.counts numbers e on) s = each_shard (Of i) shards own _ on tt (λ t. (hop_0 i, tt)) s
-  done_of own _ _ (Done.names_wanted pattern told e on w) s = each_shard (Of i) shards own _ on tt (λ t. (hop_0 i, tt)) s
+  done_of own _ _ (Done.names_wanted pattern told e on) s = each_shard (Of i) shards own _ on tt (λ t. (hop_0 i, tt)) s
   done_of own _ _ (Done.counts_wanted told e on w) s = each_shard (Of i) shards own _ on tt (λ t. (hop_0 i, tt)) s
   done_of own _ _ (Done.cuts pairs reply e on w) s = each_shard (Of i) shards own _ on tt (λ t. (hop_0 i, tt)) s
   done_of own _ _ (Done.cleared e on) s = each_shard (Of i) shards own _ on tt (λ t. (hop_1 i, (hop_2 i, tt))) s

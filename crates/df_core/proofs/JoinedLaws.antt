@@ -15,6 +15,7 @@ use Rattle.df_model.proofs.LocalityLaws.{held_with, same_bytes, tied}
 use Rattle.df_model.proofs.WholeLaws.{same_map_by}
 use Rattle.df_log.specs.Parts.{Part, own_keys}
 use Rattle.df_core.specs.Joined.{with_pairs, joined_to, joined}
+use Rattle.df_core.specs.History.{part_of}
 
 abbrev pub or_else : Option Value → Option Value → Option Value
 or_else None w = w
@@ -94,3 +95,9 @@ same_joined shards (suc t) parts others same =
 pub joined_stays : (shards : ℕ) (xs ys : ℕ → Part) → ((s : ℕ) → (ys s).visible ≡ (xs s).visible) →
     joined shards ys ≡ joined shards xs
 joined_stays shards xs ys same = same_joined shards shards ys xs (λ s lt. same s)
+
+-- a keyspace that is split over its shards is whole again when they are joined
+pub joined_parts : (shards : ℕ) → 0 < shards → (K : Keyspace) → joined shards (part_of shards K) ≡ K
+joined_parts shards some K = joined_is shards (part_of shards K) K some (λ key.
+    held_own shards (shard_of key shards) K key
+    ∙ ap (λ b. cond b (held K key) None) (eq-eqb (shard_of key shards) (shard_of key shards) refl))

@@ -103,6 +103,7 @@ module _ (shards i : ℕ) (command : Command) where
   kept_told : (own : ℕ → List Step) (kept : Bool) (reply : Reply) → 0 < shards →
       Done shards i command own kept reply → some (λ s. keeps_in i (own s)) shards ≡ kept
   kept_told own kept reply pos (done.nowhere e none) = none_passes _ shards (λ s. ap (keeps_in i) (none s))
+  kept_told own kept reply pos (done.nowhere_wanted e none) = none_passes _ shards (λ s. ap (keeps_in i) (none s))
   kept_told own kept reply pos (done.ran s r e is there) =
       one_passes _ shards s (alone_within shards s command pos e) (ap (keeps_in i) is ∙ or_left _ _ (keeps_first i (Run command) (Ran r) true refl))
   kept_told own kept reply pos (done.run_wanted s e is there) =
@@ -115,7 +116,7 @@ module _ (shards i : ℕ) (command : Command) where
   kept_told own kept reply pos (done.undone K e undoes some) = none_passes _ shards (λ s. undoes_none K s (own s) (undoes s))
   kept_told own kept reply pos (done.names pattern names is each) = first_none own Walk (λ s. acts.Names (names s)) refl each
   kept_told own kept reply pos (done.counts numbers is each) = first_none own Count (λ s. Number (numbers s)) refl each
-  kept_told own kept reply pos (done.names_wanted pattern answers is each some) = first_none own Walk answers refl each
+  kept_told own kept reply pos (done.names_wanted pattern answers is each) = first_none own Walk answers refl each
   kept_told own kept reply pos (done.counts_wanted answers is each some) = first_none own Count answers refl each
   kept_told own kept reply pos (done.cuts pairs r is each may) = first_none own Begin (λ s. Cut (pairs s)) refl each
   kept_told own kept reply pos (done.cleared is each) =

@@ -154,7 +154,7 @@ module _ (shards s : ℕ) (st : Step) (steps : ℕ → List Step) (K : Keyspace)
           false,
           want_of_memory,
           Done.names_wanted c.0 (λ t. NoMemory) c.1
-              (on_one (first_step i Walk NoMemory) (eqb-true shards 1 q) (is_first i Walk NoMemory hop f.2 w)) (s, within, refl),
+              (on_one (first_step i Walk NoMemory) (eqb-true shards 1 q) (is_first i Walk NoMemory hop f.2 w)),
         )
       ]
   hit i command Counts e q at due =

@@ -192,6 +192,7 @@ module _ (shards i : ℕ) (pos : 0 < shards) (command : Command) (own : ℕ → 
   pub done_may_end : (kept : Bool) (reply : Reply) → Done shards i command own kept reply →
       may_end_by shards command (course_of shards command) own ≡ true
   done_may_end _ _ (Done.nowhere e n) = ap (λ c. may_end_by shards command c own) e
+  done_may_end _ _ (Done.nowhere_wanted e n) = ap (λ c. may_end_by shards command c own) e
   done_may_end _ _ (Done.ran s reply e x n) = ap (λ c. may_end_by shards command c own) e ∙ cons_some _ [] (own s) x
   done_may_end _ _ (Done.run_wanted s e x n) = ap (λ c. may_end_by shards command c own) e ∙ cons_some _ [] (own s) x
   done_may_end _ _ (Done.changed K e shows some) =
@@ -207,7 +208,7 @@ module _ (shards i : ℕ) (pos : 0 < shards) (command : Command) (own : ℕ → 
       (λ t. undoes_looked shards i t command K (own t) (undoes t)) (λ t. undoes_settled shards i t command K (own t) (undoes t))
   done_may_end _ _ (Done.names pattern names e on) = ap (λ c. may_end_by shards command (course_of shards c) own) e ∙ each_ends _ on (λ t. refl)
   done_may_end _ _ (Done.counts numbers e on) = ap (λ c. may_end_by shards command (course_of shards c) own) e ∙ each_ends _ on (λ t. refl)
-  done_may_end _ _ (Done.names_wanted pattern told e on w) =
+  done_may_end _ _ (Done.names_wanted pattern told e on) =
       ap (λ c. may_end_by shards command (course_of shards c) own) e ∙ each_ends _ on (λ t. refl)
   done_may_end _ _ (Done.counts_wanted told e on w) = ap (λ c. may_end_by shards command (course_of shards c) own) e ∙ each_ends _ on (λ t. refl)
   done_may_end _ _ (Done.cuts pairs reply e on w) = ap (λ c. may_end_by shards command (course_of shards c) own) e ∙ each_ends _ on (λ t. refl)

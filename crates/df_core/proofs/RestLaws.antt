@@ -146,6 +146,7 @@ module _ (shards i : ℕ) (pos : 0 < shards) (command : Command) (own : ℕ → 
   pub done_due : (kept : Bool) (reply : Reply) → Done shards i command own kept reply →
       GoesOn shards i command own kept reply j act
   done_due _ _ (Done.nowhere e n) = absurd (none-some act (at_course Nowhere e))
+  done_due _ _ (Done.nowhere_wanted e n) = absurd (none-some act (at_course Nowhere e))
   done_due _ _ (Done.ran t reply e x n) = absurd (alone_spent t _ e x)
   done_due _ _ (Done.run_wanted t e x n) = absurd (alone_spent t _ e x)
   done_due _ _ (Done.changed K e shows some) =
@@ -166,7 +167,7 @@ module _ (shards i : ℕ) (pos : 0 < shards) (command : Command) (own : ℕ → 
       (changes_read shards command own K pos e (λ t l. undoes_read shards i t command K (own t) (undoes t)) s)))
   done_due _ _ (Done.names pattern names e on) = absurd (each_spent Walk _ on (at_course courses.Names (ap (course_of shards) e)))
   done_due _ _ (Done.counts numbers e on) = absurd (each_spent Count _ on (at_course Counts (ap (course_of shards) e)))
-  done_due _ _ (Done.names_wanted pattern told e on w) = absurd (each_spent Walk _ on (at_course courses.Names (ap (course_of shards) e)))
+  done_due _ _ (Done.names_wanted pattern told e on) = absurd (each_spent Walk _ on (at_course courses.Names (ap (course_of shards) e)))
   done_due _ _ (Done.counts_wanted told e on w) = absurd (each_spent Count _ on (at_course Counts (ap (course_of shards) e)))
   done_due _ _ (Done.cuts pairs reply e on w) = absurd (each_spent Begin _ on (at_course Cuts (ap (course_of shards) e)))
   done_due _ _ (Done.cleared e on) = absurd (clear_spent _ e on refl)

@@ -234,6 +234,7 @@ module _ (shards i n : ℕ) (command : Command) (own : ℕ → List Step) (parts
       leaves (meaning command no_keys).0 (λ c. cc) stays
       (nowhere_means shards command e (joined shards parts)
       ∙ ap (λ K. ((meaning command no_keys).0, K)) (sym (joined_stays shards parts behind stays)))
+  done_here kept reply (done.nowhere_wanted e none) told = wants (λ c. cc) (λ s. ap (λ steps. (after_steps n steps (parts s)).visible) (none s))
   done_here kept reply (done.ran s r e is there) told = ran_does s r e is there told
   done_here kept reply (done.run_wanted s e is there) told = wants (λ c. cc) (run_stays s is there)
   done_here kept reply (done.changed K e shows some) told =
@@ -245,7 +246,7 @@ module _ (shards i n : ℕ) (command : Command) (own : ℕ → List Step) (parts
   done_here kept reply (done.undone K e undoes some) told = wants (not_cuts e) (λ s. undoes_stays shards i n command K s (own s) (parts s) (undoes s))
   done_here kept reply (done.names pattern names is each) told = names_does shards i n command own parts told pattern names is each
   done_here kept reply (done.counts numbers is each) told = counts_does shards i n command own parts told numbers is each
-  done_here kept reply (done.names_wanted pattern answers is each some) told = names_wanted_does shards i n command own parts pattern answers is each
+  done_here kept reply (done.names_wanted pattern answers is each) told = names_wanted_does shards i n command own parts pattern answers is each
   done_here kept reply (done.counts_wanted answers is each some) told = counts_wanted_does shards i n command own parts answers is each
   done_here kept reply (done.cuts pairs r is each may) told = cuts_does shards i n command own parts pairs r is each may
   done_here kept reply (done.cleared is each) told = cleared_does shards i n command own parts pos is each

@@ -1,17 +1,16 @@
 -- From the order law of worlds, for calls that keep its laws, to the one history of a run.
-use Rattle.std.proofs.Common.{◌≡◌, inl, inr, ℕ, zero, suc, pred, ◌+◌, ◌<◌, ◌≤◌, Bool, true, false, List, [], ◌∷◌, map, refl, sym, ap, subst, ◌∙◌, arith}
-use Rattle.std.specs.Prelude.{None, cond, if◌then◌else◌}
+use Rattle.std.proofs.Common.{◌≡◌, inl, inr, ℕ, zero, suc, pred, ◌+◌, ◌<◌, ◌≤◌, Bool, true, false, List, [], ◌∷◌, map, refl, sym, subst, arith}
+use Rattle.std.specs.Prelude.{if◌then◌else◌}
 use Rattle.std.specs.List.{AllByRecursion}
-use Rattle.std.proofs.lemmas.Bool.{cases_lt, eq-eqb}
-use Rattle.df_model.specs.Keyspace.{Keyspace, held}
-use Rattle.df_model.specs.Hash.{shard_of}
+use Rattle.std.proofs.lemmas.Bool.{cases_lt}
+use Rattle.df_model.specs.Keyspace.{Keyspace}
 use Rattle.df_model.specs.History.{Item, IsLegal, RisesFrom, SeesItsOwn, IsOrdered}
 use Rattle.df_model.specs.declared.reply.Reply.{Reply}
 use Rattle.df_order.specs.Model.{Laws}
 use Rattle.df_order.specs.Histories as order
 use Rattle.df_order.proofs.Lists.{nil_none}
 use Rattle.df_order.proofs.Commute.{has_own}
-use Rattle.df_order.proofs.LogsAlone.{none_all}
+use Rattle.df_order.proofs.LogsAlone.{none_all, has_some, names_none_at}
 use Rattle.df_world.specs.World.{World, Unstaged, first, logs}
 use Rattle.df_world.specs.Events.{Event, Happens, after, Runs}
 use Rattle.df_world.specs.TheList.{Finds, the_list}
@@ -20,20 +19,14 @@ use Rattle.df_world.specs.Seen.{Seen, Entered}
 use Rattle.df_world.specs.Invariant.{Invariant}
 use Rattle.df_world.proofs.Events.{first_sound, runs_sound, event_sound}
 use Rattle.df_world.proofs.Invariants.{invariant_of}
-use Rattle.df_world.proofs.OneList.{the_list_legal, names_none_at, has_some}
+use Rattle.df_world.proofs.OneList.{the_list_legal}
 use Rattle.df_world.proofs.Seen.{first_seen, runs_seen}
 use Rattle.df_core.specs.Joined.{joined}
 use Rattle.df_core.specs.Calls.{calls}
 use Rattle.df_core.specs.History.{idle, part_of, with_draw, NamesAShard}
 use Rattle.df_core.specs.Laws.{draws_of}
-use Rattle.df_core.proofs.JoinedLaws.{held_own, joined_is}
+use Rattle.df_core.proofs.JoinedLaws.{joined_parts}
 use Rattle.df_core.proofs.HistoryLaws.{is_legal}
-
--- a keyspace that is split over its shards is whole again when they are joined
-joined_parts : (shards : ℕ) → 0 < shards → (K : Keyspace) → joined shards (part_of shards K) ≡ K
-joined_parts shards some K = joined_is shards (part_of shards K) K some (λ key.
-    held_own shards (shard_of key shards) K key
-    ∙ ap (λ b. cond b (held K key) None) (eq-eqb (shard_of key shards) (shard_of key shards) refl))
 
 unstaged : (shards : ℕ) (K : Keyspace) (s : ℕ) → Unstaged (calls shards) s (part_of shards K s)
 unstaged shards K s = record { bare = λ n. refl; good = λ n call key w. refl }

@@ -91,6 +91,7 @@ IsSaveReply reply = (reply ≡ ok) ⊎ (reply ≡ Error errors.SaveFailed) ⊎ (
 -- ---- all hops of command i, by its own steps on each shard: whether it is kept, and its reply
 pub data Done (shards i : ℕ) (command : Command) (steps : ℕ → List Step) : Bool → Reply → Type 0 where
   nowhere : course_of shards command ≡ Nowhere → ((s : ℕ) → steps s ≡ []) → Done shards i command steps false (meaning command no_keys).0
+  nowhere_wanted : course_of shards command ≡ Nowhere → ((s : ℕ) → steps s ≡ []) → Done shards i command steps false want_of_memory
   -- one hop on one shard
   ran : (s : ℕ) (reply : Reply) → course_of shards command ≡ Alone s → steps s ≡ first_step i (Run command) (Ran reply) ∷ []
       → ((t : ℕ) → t ≢ s → steps t ≡ []) → Done shards i command steps true reply
@@ -110,8 +111,9 @@ pub data Done (shards i : ℕ) (command : Command) (steps : ℕ → List Step) :
       → Done shards i command steps false (bulks (filter (is_match pattern) (members.items (names_of names shards))))
   counts : (numbers : ℕ → ℕ) → command ≡ Whole wholes.Dbsize → OnEach shards steps (λ s. first_step i Count (Number (numbers s)) ∷ [])
       → Done shards i command steps false (count (sum_of numbers shards))
+  -- to put the names together takes memory too, so it may be wanting after each shard told its own
   names_wanted : (pattern : Bytes) (told : ℕ → Told) → command ≡ Whole (wholes.Keys pattern) → OnEach shards steps (λ s. first_step i Walk (told s) ∷ [])
-      → Wanted shards told → Done shards i command steps false want_of_memory
+      → Done shards i command steps false want_of_memory
   counts_wanted : (told : ℕ → Told) → command ≡ Whole wholes.Dbsize → OnEach shards steps (λ s. first_step i Count (told s) ∷ [])
       → Wanted shards told → Done shards i command steps false want_of_memory
   cuts : (pairs : ℕ → Keyspace) (reply : Reply) → command ≡ Whole wholes.Save → OnEach shards steps (λ s. first_step i Begin (Cut (pairs s)) ∷ [])

@@ -19,6 +19,7 @@ use Rattle.df_log.specs.Parts.{Part, own_keys}
 use Rattle.df_log.specs.declared.entry.Entry.{Entry}
 use Rattle.df_core.specs.Steps.{Step}
 use Rattle.df_core.specs.Due.{due}
+use Rattle.df_core.specs.OneDue.{Comparable}
 use Rattle.df_core.specs.Done.{Gives}
 use Rattle.df_core.specs.Joined.{joined}
 use Rattle.df_core.specs.Calls.{calls}
@@ -83,3 +84,9 @@ abbrev pub CompleteCallsRest : Type 0
 CompleteCallsRest =
     (shards : ℕ) (call : Call) (steps : ℕ → List Step) (reply : Reply) (s hop : ℕ) (act : Act) → 0 < shards →
     Gives shards call steps reply → due shards call steps s hop ≡ Some act → (changes : Changes) × (act ≡ Stage changes)
+
+-- What is due as a hop is one act, by however many of the call's steps on each shard were seen.
+abbrev pub DueIsOne : Type 0
+DueIsOne =
+    (shards : ℕ) (call : Call) (xs ys : ℕ → List Step) (s hop : ℕ) (a b : Act) → ((t : ℕ) → Comparable (xs t) (ys t)) →
+    due shards call xs s hop ≡ Some a → due shards call ys s hop ≡ Some b → a ≡ b

@@ -2,6 +2,7 @@ pub mod Altered
 pub mod Courses
 pub mod Steps
 pub mod Due
+pub mod OneDue
 pub mod Done
 pub mod Belongs
 pub mod Joined

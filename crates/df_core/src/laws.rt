@@ -1,6 +1,6 @@
 //! The laws of calls on shards, each the contract of a function that does nothing.
 
-ghost use Rattle.df_core.specs.Laws.{CallsKeepTheLaws, CompleteCallsRest, EventsKeepTheInvariant, LogsAreOneHistory, RunsAreInOrder, RunsAreOneHistory, SavesStandInTheHistory};
+ghost use Rattle.df_core.specs.Laws.{CallsKeepTheLaws, CompleteCallsRest, DueIsOne, EventsKeepTheInvariant, LogsAreOneHistory, RunsAreInOrder, RunsAreOneHistory, SavesStandInTheHistory};
 
 /// The serial order law: whatever happens in whatever order, the finished calls are those of one thread that takes
 /// them in the order of their numbers, and each number is above all that its caller had seen.
@@ -29,4 +29,9 @@ pub fn calls_keep_the_laws()
 /// memory, might have gone on.
 pub fn complete_calls_rest()
     ensures { CompleteCallsRest }
+{}
+
+/// Whoever has seen more or less of a call agrees with the others on what a hop of it is.
+pub fn due_is_one()
+    ensures { DueIsOne }
 {}

@@ -1,6 +1,7 @@
 -- A log does the same sorted by number, and without the calls that nothing behind them meets.
 use Rattle.std.proofs.Common.{◌≡◌, ◌≢◌, ℕ, zero, suc, ◌<◌, ◌≤◌, Bool, true, false, List, [], ◌∷◌, ◌++◌, inl, inr, refl, sym, ap, ◌∙◌, subst, arith, eqb}
 use Rattle.std.proofs.lemmas.Bool.{cases_lt, false≢true, eqb-true, eq-eqb, ne_eqb}
+use Rattle.std.proofs.lemmas.Bool.Decides.{eqb_tells}
 use Rattle.std.proofs.lemmas.List.{append-nil}
 use Rattle.df_order.specs.Lists.{Has, Chain, cons_if, only}
 use Rattle.df_order.specs.Model.{Model, Laws, clash, own, upto, replay, FitAll, TellAll, Before, IsInOrder, Alike}
@@ -51,6 +52,25 @@ module _ (M : Model) where
   upto_nil : (n : ℕ) → upto M n [] ≡ []
   upto_nil zero = refl
   upto_nil (suc n) = ap (λ l. l ++ []) (upto_nil n)
+
+-- ---- what is staged
+
+-- after an entry that was told what it gives, what is staged for a number is still its call's to write
+pub good_next : (M : Model) (laws : Laws M) (calls : ℕ → M.Call) (s : ℕ) (e : M.Entry) (x : M.State) →
+    M.Tells s (calls (M.number e)) e x → ((n : ℕ) → M.Good s (calls n) n x) → (n : ℕ) →
+    M.Good s (calls n) n (M.effect e x)
+good_next M laws calls s e x told good n = elim (eqb_tells (M.number e) n) [
+  | inl i ↦ subst (λ m. M.Good s (calls m) m (M.effect e x)) i.1
+      (laws.good_own s (calls (M.number e)) e x told (good (M.number e)))
+  | inr i ↦ laws.good_other s (calls n) n e x i.1 (good n)
+]
+
+-- and so after a log
+pub good_after : (M : Model) (laws : Laws M) (calls : ℕ → M.Call) (s : ℕ) (x : M.State) (log : List M.Entry) →
+    ((n : ℕ) → M.Good s (calls n) n x) → FitAll M calls s x log → (n : ℕ) → M.Good s (calls n) n (replay M x log)
+good_after M laws calls s x [] good fit n = good n
+good_after M laws calls s x (e ∷ log) good fit n =
+    good_after M laws calls s (M.effect e x) log (good_next M laws calls s e x fit.0.0 good) fit.1 n
 
 -- ---- logs that fit
 

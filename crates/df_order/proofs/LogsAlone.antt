@@ -1,12 +1,12 @@
 -- Logs in order, with what they were told, make one legal history.
-use Rattle.std.proofs.Common.{◌≡◌, ℕ, zero, suc, ◌+◌, ◌<◌, ◌≤◌, Bool, true, false, not, List, [], ◌∷◌, inl, inr, refl, sym, ap, ◌∙◌, subst, arith, eqb}
-use Rattle.std.proofs.lemmas.Bool.{cases_lt, false≢true, or_left, or_right, or_parts}
-use Rattle.std.proofs.lemmas.Bool.Decides.{eqb_tells}
+use Rattle.std.proofs.Common.{◌≡◌, ℕ, zero, suc, ◌+◌, ◌<◌, ◌≤◌, Bool, true, false, not, List, [], ◌∷◌, Option, Some, None, inl, inr, refl, sym, ap, ◌∙◌, subst, arith, eqb}
+use Rattle.std.proofs.lemmas.Bool.{cases_lt, false≢true, and_parts, or_cases, or_left, or_right, or_parts}
+use Rattle.std.specs.Prelude.{is_none}
 use Rattle.df_order.specs.Lists.{Has, Chain, cons_if}
 use Rattle.df_order.specs.Model.{Model, Laws, names_none, own, upto, replay, FitAll, TellAll, Before}
 use Rattle.df_order.specs.Histories.{Item, Legal, LegalTo, Rising, is_nil, some_entry, executed, entries, item, items_where, items, Recorded, state_at, keyspace_at, NumberStands}
 use Rattle.df_order.proofs.Lists.{chain_only, chain_map, nil_none}
-use Rattle.df_order.proofs.Commute.{sorted, fit_back, fit_upto, replay_append, has_own, own_has}
+use Rattle.df_order.proofs.Commute.{sorted, fit_back, fit_upto, replay_append, has_own, own_has, good_next}
 
 nil_is : {X : Type 0} (xs : List X) → not (is_nil xs) ≡ false → xs ≡ []
 nil_is [] e = refl
@@ -15,6 +15,15 @@ nil_is (x ∷ xs) e = absurd (false≢true (sym e))
 not_nil : {X : Type 0} (xs : List X) (x : X) → Has xs x → not (is_nil xs) ≡ true
 not_nil [] x h = absurd h
 not_nil (y ∷ xs) x h = refl
+
+-- a list that isn't empty has a first
+head_of : {X : Type 0} (xs : List X) → not (is_nil xs) ≡ true → (x : X) × Has xs x
+head_of [] e = absurd (false≢true e)
+head_of (x ∷ xs) e = (x, inl refl)
+
+none_is : {X : Type 0} (o : Option X) → is_none o ≡ true → o ≡ None
+none_is None e = refl
+none_is (Some x) e = absurd (false≢true e)
 
 -- ---- whose entries the logs have
 
@@ -43,6 +52,26 @@ module _ (M : Model) (logs : ℕ → List M.Entry) where
     | inl lt ↦ none_own n M.shards e s lt
     | inr ge ↦ ap (own M n) (within s ge)
   ]
+
+-- an entry of the number, where one of the first shards has some
+pub has_some : (M : Model) (logs : ℕ → List M.Entry) (n t : ℕ) → some_entry M logs n t ≡ true →
+    (s : ℕ) × (e : M.Entry) × Has (own M n (logs s)) e
+has_some M logs n zero h = absurd (false≢true h)
+has_some M logs n (suc t) h = elim (or_cases (not (is_nil (own M n (logs t)))) (some_entry M logs n t) h) [
+  | inl a ↦ (let v = head_of (own M n (logs t)) a in (t, v.0, v.1))
+  | inr b ↦ has_some M logs n t b
+]
+
+-- a call that names none of the first shards asks for nothing there
+pub names_none_at : (M : Model) (c : M.Call) (t : ℕ) → names_none M c t ≡ true → (s : ℕ) → s < t →
+    M.footprint c s ≡ None
+names_none_at M c zero e s lt = absurd (omega (arith, lt))
+names_none_at M c (suc t) e s lt =
+    let a = and_parts (is_none (M.footprint c t)) (names_none M c t) e in
+    elim (cases_lt s t) [
+      | inl l ↦ names_none_at M c t a.1 s l
+      | inr ge ↦ (let i : t ≡ s = omega arith in subst (λ j. M.footprint c j ≡ None) i (none_is (M.footprint c t) a.0))
+    ]
 
 -- ---- histories
 
@@ -104,14 +133,8 @@ module _ (M : Model) (laws : Laws M) (calls : ℕ → M.Call) (count : ℕ) (sta
   fit_from : (s : ℕ) (x : M.State) (log : List M.Entry) → ((n : ℕ) → M.Good s (calls n) n x) → TellAll M calls s x log →
       FitAll M calls s x log
   fit_from s x [] good t = tt
-  fit_from s x (e ∷ log) good t = ((t.0, good (M.number e)), fit_from s (M.effect e x) log next t.1)
-    where
-      next : (n : ℕ) → M.Good s (calls n) n (M.effect e x)
-      next n = elim (eqb_tells (M.number e) n) [
-        | inl i ↦ subst (λ m. M.Good s (calls m) m (M.effect e x)) i.1
-            (laws.good_own s (calls (M.number e)) e x t.0 (good (M.number e)))
-        | inr i ↦ laws.good_other s (calls n) n e x i.1 (good n)
-      ]
+  fit_from s x (e ∷ log) good t =
+      ((t.0, good (M.number e)), fit_from s (M.effect e x) log (good_next M laws calls s e x t.0 good) t.1)
 
   pub fit_all : (s : ℕ) → FitAll M calls s (start s) (logs s)
   fit_all s = fit_from s (start s) (logs s) (λ n. recorded.clean s n (calls n)) (recorded.telling s)

@@ -6,7 +6,7 @@ use Rattle.df_order.specs.Lists.{Has, Chain}
 use Rattle.df_order.specs.Model.{Model, Laws, conflict, clash, own, Fits, FitAll, Before, IsInOrder}
 use Rattle.df_order.specs.Shards.{Place, Holder, Shard, Queued, insert, tail, is_free, empty, enqueue, leave, enter, MayRun, greatest, Kept}
 use Rattle.df_order.proofs.Lists.{has_last, has_only, only_has, chain_only, chain_push}
-use Rattle.df_order.proofs.Commute.{fit_append, replay_append, own_has}
+use Rattle.df_order.proofs.Commute.{fit_append, replay_append, own_has, good_after}
 
 -- ---- the queue
 
@@ -259,6 +259,14 @@ module _ (M : Model) (laws : Laws M) (calls : ℕ → M.Call) (s : ℕ) (start :
         rises = λ j. absurd (omega (arith, ran_most M calls s start x kept f h, i));
         lower = λ lt. absurd (omega (arith, ran_most M calls s start x kept f h, i));
       })
+
+-- ---- what is staged
+
+-- what is staged for a number is its call's to write, as it was at first
+pub kept_good : (M : Model) → Laws M → (calls : ℕ → M.Call) (s : ℕ) (start : M.State) (x : Shard M) →
+    Kept M calls s start x → ((n : ℕ) → M.Good s (calls n) n start) → (n : ℕ) → M.Good s (calls n) n x.state
+kept_good M laws calls s start x kept clean n =
+    subst (M.Good s (calls n) n) (sym kept.replayed) (good_after M laws calls s start x.log clean kept.fitting n)
 
 -- ---- calls that become known
 

@@ -105,3 +105,12 @@ abbrev pub WaitingIsApart : Model → Type 0
 WaitingIsApart M =
     Laws M → (calls : ℕ → M.Call) (s : ℕ) (start : M.State) (x : Shard M) (n : ℕ) → Kept M calls s start x →
     Queued x.queue n → (e : M.Entry) → Has x.log e → n < M.number e → clash M calls s (M.number e) n ≡ false
+
+-- ---- what is staged
+
+-- What is staged for a number is its call's to write, where it was so at first: so an entry that was told what it gives
+-- fits.
+abbrev pub StagedIsOwn : Model → Type 0
+StagedIsOwn M =
+    Laws M → (calls : ℕ → M.Call) (s : ℕ) (start : M.State) (x : Shard M) → Kept M calls s start x →
+    ((n : ℕ) → M.Good s (calls n) n start) → (n : ℕ) → M.Good s (calls n) n x.state

@@ -2,7 +2,7 @@
 
 ghost use Rattle.df_order.specs.Model.{Model, Laws};
 ghost use Rattle.df_order.specs.Counters.{counters};
-ghost use Rattle.df_order.specs.Laws.{RecordedLegal, ItemsRise, NumbersStand, LogsSort, KeptAtFirst, KeptByEnqueue, KeptByLeave, KeptByEnter, KeptByHop, KeptAtOnce, KeptByLearning, RanIsGreatest, FreeIsApart, TurnIsApart, WaitingIsApart};
+ghost use Rattle.df_order.specs.Laws.{RecordedLegal, ItemsRise, NumbersStand, LogsSort, KeptAtFirst, KeptByEnqueue, KeptByLeave, KeptByEnter, KeptByHop, KeptAtOnce, KeptByLearning, RanIsGreatest, FreeIsApart, TurnIsApart, WaitingIsApart, StagedIsOwn};
 
 /// Some commands, told by a model. A law that is generic over this is one of every model.
 pub trait Commands {
@@ -65,6 +65,11 @@ pub fn kept_shards_know_who_conflicts<C: Commands>()
     ensures free { FreeIsApart C.model }
     ensures turn { TurnIsApart C.model }
     ensures waiting { WaitingIsApart C.model }
+{}
+
+/// While it holds, what is staged for a number is its call's to write.
+pub fn staged_is_its_calls<C: Commands>()
+    ensures { StagedIsOwn C.model }
 {}
 
 /// Counters on two shards: a small model, so that the laws are known to be met.

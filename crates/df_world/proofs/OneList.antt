@@ -1,47 +1,17 @@
 -- The finished calls of a world are legal, in the order of their numbers.
-use Rattle.std.proofs.Common.{◌≡◌, ◌≢◌, ℕ, zero, suc, pred, ◌<◌, ◌≤◌, Bool, true, false, ◌||◌, not, List, [], ◌∷◌, Option, Some, None, inl, inr, refl, sym, ap, ◌∙◌, subst, arith, eqb}
-use Rattle.std.proofs.lemmas.Bool.{cases_lt, false≢true, eqb-true, and_parts, or_cases, or_right}
-use Rattle.std.specs.Prelude.{is_none}
+use Rattle.std.proofs.Common.{◌≡◌, ◌≢◌, ℕ, pred, ◌≤◌, Bool, true, false, ◌||◌, List, [], None, inl, inr, refl, sym, ap, ◌∙◌, subst, arith, eqb}
+use Rattle.std.proofs.lemmas.Bool.{cases_lt, false≢true, eqb-true, or_cases, or_right}
 use Rattle.df_order.specs.Lists.{Has, only}
 use Rattle.df_order.specs.Model.{Model, Laws, Whole, names_none, clash, own, Before}
-use Rattle.df_order.specs.Histories.{Legal, is_nil, some_entry, executed, entries, Recorded}
+use Rattle.df_order.specs.Histories.{Legal, some_entry, executed, entries, Recorded}
 use Rattle.df_order.specs.Shards.{Queued}
 use Rattle.df_order.proofs.Lists.{has_only, chain_only, chain_map, nil_none, only_only}
 use Rattle.df_order.proofs.Commute.{Leaves, kept_only, has_own, fit_tells}
-use Rattle.df_order.proofs.LogsAlone.{legal, none_all, items_alike}
+use Rattle.df_order.proofs.LogsAlone.{legal, none_all, has_some, names_none_at, items_alike}
 use Rattle.df_world.specs.World.{World, logs, Unstaged}
 use Rattle.df_world.specs.TheList.{Finds, the_list}
 use Rattle.df_world.specs.Sound.{Sound}
 use Rattle.df_world.proofs.SoundFacts.{entry_drawn, waits_or_done}
-
--- a list that isn't empty has a first
-pub head_of : {X : Type 0} (xs : List X) → not (is_nil xs) ≡ true → (x : X) × Has xs x
-head_of [] e = absurd (false≢true e)
-head_of (x ∷ xs) e = (x, inl refl)
-
-none_is : {X : Type 0} (o : Option X) → is_none o ≡ true → o ≡ None
-none_is None e = refl
-none_is (Some x) e = absurd (false≢true e)
-
--- an entry of the number, where one of the first shards has some
-pub has_some : (M : Model) (logs : ℕ → List M.Entry) (n t : ℕ) → some_entry M logs n t ≡ true →
-    (s : ℕ) × (e : M.Entry) × Has (own M n (logs s)) e
-has_some M logs n zero h = absurd (false≢true h)
-has_some M logs n (suc t) h = elim (or_cases (not (is_nil (own M n (logs t)))) (some_entry M logs n t) h) [
-  | inl a ↦ (let v = head_of (own M n (logs t)) a in (t, v.0, v.1))
-  | inr b ↦ has_some M logs n t b
-]
-
--- a call that names none of the first shards asks for nothing there
-pub names_none_at : (M : Model) (c : M.Call) (t : ℕ) → names_none M c t ≡ true → (s : ℕ) → s < t →
-    M.footprint c s ≡ None
-names_none_at M c zero e s lt = absurd (omega (arith, lt))
-names_none_at M c (suc t) e s lt =
-    let a = and_parts (is_none (M.footprint c t)) (names_none M c t) e in
-    elim (cases_lt s t) [
-      | inl l ↦ names_none_at M c t a.1 s l
-      | inr ge ↦ (let i : t ≡ s = omega arith in subst (λ j. M.footprint c j ≡ None) i (none_is (M.footprint c t) a.0))
-    ]
 
 module _ (M : Model) (laws : Laws M) (start : ℕ → M.State) (unstaged : (s : ℕ) → Unstaged M s (start s)) (w : World M)
     (sound : Sound M start w) (finished : ℕ → Bool) (replies : ℕ → M.Reply) (finds : Finds M w finished replies) where

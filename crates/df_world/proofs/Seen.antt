@@ -11,13 +11,13 @@ use Rattle.df_order.specs.Shards.{Shard, enqueue, leave, enter}
 use Rattle.df_order.proofs.Lists.{has_left, has_last, nil_none}
 use Rattle.df_order.proofs.Puts.{put_case, put_same, put_other}
 use Rattle.df_order.proofs.Commute.{has_own}
+use Rattle.df_order.proofs.LogsAlone.{names_none_at}
 use Rattle.df_world.specs.World.{Phase, Fresh, Taken, Out, Cancelled, Done, IsTaken, World, logs, moved, first}
 use Rattle.df_world.specs.Events.{Event, Draw, Schedule, Quick, Hop, Cancel, Conclude, Bucket_write, takes, offered, runs_at_once, hopped, some_of, seen_top, floor_of, after, Settled, CanDraw, CanOffer, CanHop, Happens, Runs}
 use Rattle.df_world.specs.Sound.{Sound}
 use Rattle.df_world.specs.Seen.{Entered, Never, Seen}
 use Rattle.df_world.proofs.SoundFacts.{entry_drawn, entry_within}
 use Rattle.df_world.proofs.Events.{event_sound}
-use Rattle.df_world.proofs.OneList.{names_none_at}
 
 -- ---- events that draw nothing
 

@@ -1,12 +1,12 @@
 use Rattle.std.proofs.Common.{rules, ◌≡◌, ◌<◌, [], ◌∷◌, ◌++◌, ℕ, List, sym, ap, ◌∙◌, subst, refl, arith}
 use Rattle.df_log.specs.declared.entry.Entry.{Entry}
 use Rattle.df_book.specs.Weights.{Each}
-use Rattle.df_book.specs.Logs.{at_log, alone, IsPrefix, BothSeen, HasRoom, IsFresh}
+use Rattle.df_book.specs.Logs.{at_log, IsPrefix, BothSeen, HasRoom, IsFresh}
 use Rattle.df_book.specs.Draws.{draws_of, last_number}
 use Rattle.df_book.specs.Passes.{Receipt, draw_by}
 use Rattle.df_test_order.specs.Runs.{cleared}
 use Rattle.df_book.specs.declared.draw.Draw.{Draw}
-use Rattle.df_test_order.proofs.Running.{last-snoc, drawn-last, below-fresh, below-room, sees-all}
+use Rattle.df_book.proofs.Running.{last-snoc, drawn-last, below-fresh, below-room, sees-all}
 use Rattle.df_book.proofs.Logs.{prefix-append}
 use Rattle.df_test_order.proofs.book.run_on.Goals as goal
 
@@ -38,7 +38,9 @@ returns-clause-seen c =
     let same : c.ticket-ticket.new.pass.seen ≡ was = search rules in
     let entered : q.log ≡ log ++ cleared c.draw-number.result ∷ [] = search rules in
     let here : q.shard ≡ c.args.shard.now.shard = search rules in
-    let both : BothSeen was (alone q.shard q.log) c.take_receipt.new.pass.seen = subst (λ (p : List (List Entry) × Receipt). BothSeen p.0 (alone p.1.shard p.1.log) c.take_receipt.new.pass.seen) (λ j. (same j, c.enter-receipt.ensures.receipt j)) c.take_receipt.ensures.seen in
+    let r = c.enter-receipt.result in
+    let both : BothSeen was r.seen c.take_receipt.new.pass.seen = subst (λ (p : List (List Entry)). BothSeen p r.seen c.take_receipt.new.pass.seen) same c.take_receipt.ensures.seen in
+    let shown : at_log r.seen q.shard ≡ q.log = subst (λ (x : Receipt). at_log r.seen x.shard ≡ x.log) c.enter-receipt.ensures.receipt c.take_receipt.ensures.shown in
     let first : log ≡ at_log was q.shard = sym (ap (at_log was) here ∙ c.requires.seen) in
     let prefix : IsPrefix (at_log was q.shard) q.log = subst (λ (p : List Entry × List Entry). IsPrefix p.0 p.1) (λ j. (first j, sym entered j)) (prefix-append log (cleared c.draw-number.result ∷ [])) in
-    sees-all was c.take_receipt.new.pass.seen q.shard q.log both prefix
+    sees-all was r.seen c.take_receipt.new.pass.seen q.shard q.log both shown prefix

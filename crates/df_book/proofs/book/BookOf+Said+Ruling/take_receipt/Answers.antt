@@ -1,5 +1,5 @@
-use Rattle.std.proofs.Common.{rules, ◌≡◌, sym, ap, ◌∙◌, subst}
-use Rattle.df_book.specs.Logs.{BothSeen, alone}
+use Rattle.std.proofs.Common.{rules, ◌≡◌, refl, sym, ap, ◌∙◌, subst}
+use Rattle.df_book.specs.Logs.{BothSeen, at_log}
 use Rattle.df_book.specs.Passes.{Caller, Receipt}
 use Rattle.df_book.specs.Views.{merged, learned}
 use Rattle.df_book.specs.declared.view.View.{View}
@@ -21,5 +21,7 @@ returns-clause-seen c =
     let e : c.load.new.seat.me.0 ≡ learned (merged v w) = search rules in
     let both : BothSeen v.seen w.seen c.join_seat.new.seat.me.0.seen = both-seen v w c.join_seat.new.seat.me.0 m c.load.ensures.2.1.0 c.load.ensures.2.1.1 in
     let now : BothSeen v.seen w.seen c.load.new.seat.me.0.seen = subst (λ l. BothSeen v.seen w.seen l) (ap (λ (u : View). u.seen) m ∙ sym (ap (λ (u : View). u.seen) e)) both in
-    subst (λ (q : Caller × Receipt). BothSeen q.0.seen (alone q.1.shard q.1.log) c.load.new.seat.me.0.seen) (λ j. (c.pass.view_is j, c.receipt.view_is j))
-    (subst (λ l. BothSeen v.seen l c.load.new.seat.me.0.seen) c.receipt.invariant.7 now)
+    subst (λ (q : Caller × Receipt). BothSeen q.0.seen q.1.seen c.load.new.seat.me.0.seen) (λ j. (c.pass.view_is j, c.receipt.view_is j)) now
+
+pub returns-clause-shown : goal.returns-clause-shown
+returns-clause-shown c = subst (λ (r : Receipt). at_log r.seen r.shard ≡ r.log) c.receipt.view_is refl

@@ -1,5 +1,5 @@
 use Rattle.std.proofs.Common.{rules, ◌≡◌, List, [], ◌∷◌, ◌++◌, ap, ◌∙◌, sym, subst, refl, length, arith}
-use Rattle.df_book.specs.Weights.{Each}
+use Rattle.df_book.specs.Weights.{Each, count}
 use Rattle.df_book.specs.Logs.{at_log, Within}
 use Rattle.df_book.specs.Draws.{IsDraw}
 use Rattle.df_book.specs.Passes.{Shard}
@@ -56,3 +56,8 @@ returns-clause-whole c = let i = c.loop-pass.invariant in
     let e : closed_of c.loop-pass.seat.me.0 ≡ c.seal.result = sym c.seal.ensures.view in
     subst (λ (q : Closed × List Shard). Each (λ (p : Shard). at_log q.0.logs p.shard ≡ p.log) q.1) (λ j. (e j, all j))
     (Each-map (IsTaken c.loop-pass.seat.me.0) (λ (p : Shard). at_log c.loop-pass.seat.me.0.seen p.shard ≡ p.log) (λ p h. h.1) c.loop-pass.yielded i.6.taken)
+
+pub returns-clause-sessions : goal.returns-clause-sessions
+returns-clause-sessions c =
+    let i = c.loop-pass.invariant in
+    λ n. omega (arith, i.6.sessions n, c.seal.ensures.sessions n, ap (λ p. count n p.sessions) c.caller.view_is)

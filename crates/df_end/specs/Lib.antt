@@ -1,0 +1,11 @@
+pub mod Logs
+pub mod Calls
+pub mod Shards
+pub mod ShardSteps
+pub mod Sessions
+pub mod Rounds
+pub mod Asked
+pub mod Promise
+pub mod Ended
+pub mod Laws
+pub mod OneCall
