@@ -1,7 +1,7 @@
 -- Keys that are gathered one after the other are gathered.
 use Rattle.std.proofs.Common.{◌≡◌, ℕ, suc, Bool, true, false, cond, List, [], ◌∷◌, ◌++◌, take, length, ◌<◌, get_or, refl, sym, ap, subst, ◌∙◌, Ordering, append-nil, arith}
 use Rattle.std.proofs.lemmas.List.{take_more}
-use Rattle.std.proofs.lemmas.Bool.{eqb-true}
+use Rattle.std.proofs.lemmas.Bool.{eqb-true, lt-ltb}
 use Rattle.std.specs.Prelude.{Result, Ok, Err, OnOk, Option, Some, None, ◌==◌, ◌+◌}
 use Rattle.std.specs.Ordering.{nat_cmp, match_ordering}
 use Rattle.std.specs.declared.cmp.Ordering.TheVariants.{Less, Equal, Greater}
@@ -13,17 +13,21 @@ use Rattle.std.specs.FinMap.Entries.{by_order, find}
 use Rattle.std.specs.FinMap as fin
 use Rattle.df_model.specs.Values.{Bytes}
 use Rattle.df_model.specs.Hash.{shard_of}
-use Rattle.df_model.specs.Meaning.{firsts}
+use Rattle.df_model.specs.Access.{on_key}
+use Rattle.df_model.specs.Meaning.{firsts, one}
+use Rattle.df_model.specs.Outcomes.{KeyRow}
 use Rattle.df_model.specs.declared.command.Command.{Command}
-use Rattle.df_model.specs.declared.command.Command.TheVariants.{Many}
+use Rattle.df_model.specs.declared.command.Command.TheVariants.{One, Many}
+use Rattle.df_model.specs.declared.command.Call.TheVariants.{Single}
+use Rattle.df_model.specs.declared.command.OneOp.{OneOp}
 use Rattle.df_model.specs.declared.command.ManyOp.{ManyOp}
 use Rattle.df_model.specs.Spared.{all_of}
 use Rattle.df_model.specs.declared.keys.Keys.TheVariants as kinds
 use Rattle.df_model.specs.declared.keys.Mode.{Mode}
 use Rattle.df_model.specs.declared.keys.Mode.TheVariants.{Shared, Exclusive}
 use Rattle.df_model.proofs.LocalityLaws.{tied, same_bytes, equal}
-use Rattle.df_footprints.specs.Footprints.{Modes, in_mode, keys_of, keys_of_all, stronger, strongest, with_modes, modes_on, on_shard, some_keys, some_whole, mode_of_all, footprint_of_commands}
-use Rattle.df_footprints.specs.Naming.{Adds}
+use Rattle.df_footprints.specs.Footprints.{AsksAlone, Modes, in_mode, named, keys_of, keys_of_all, stronger, strongest, with_modes, modes_on, on_shard, some_keys, some_whole, mode_of_all, footprint_of_commands}
+use Rattle.df_footprints.specs.Naming.{Adds, mode_of_row}
 
 -- ---- lists that are taken in parts
 
@@ -153,6 +157,22 @@ pub no_key : (shards s : ℕ) (key : Bytes) (mode : Mode) → false ≡ (shard_o
     → None ≡ some_keys (fin.entries (with_modes (on_shard shards s ((key, mode) ∷ [])) fin.empty))
 no_key shards s key mode is =
     subst (λ b. None ≡ some_keys (fin.entries (with_modes (cond b ((key, mode) ∷ []) []) fin.empty))) is (ap some_keys (sym entries_empty))
+
+named_alone : (key : Bytes) (row : KeyRow) → named (Some (on_key key row)) ≡ (key, mode_of_row row) ∷ []
+named_alone key (KeyRow.Looks row) = refl
+named_alone key (KeyRow.Changes row) = refl
+
+-- a command of one key asks for that key alone
+pub asks_alone : (key : Bytes) (op : OneOp) (mode : Mode) → mode ≡ mode_of_row (one op) → AsksAlone (Single (One key op)) key mode
+asks_alone key op mode is = λ shards s lt.
+    ap (λ b. cond b (footprint_of_commands shards s (One key op ∷ [])) None) (lt-ltb s shards lt)
+    ∙ ap (λ ms. some_keys (fin.entries (with_modes (on_shard shards s ms) fin.empty))) (append-nil (keys_of (One key op)) ∙ named_alone key (one op) ∙ ap (λ m. (key, m) ∷ []) (sym is))
+    ∙ there shards s (shard_of key shards == s) refl
+  where
+    there : (shards s : ℕ) (b : Bool) → (shard_of key shards == s) ≡ b
+        → some_keys (fin.entries (with_modes (on_shard shards s ((key, mode) ∷ [])) fin.empty)) ≡ cond b (Some (kinds.Some (all_of ((key, mode) ∷ [])))) None
+    there shards s true e = sym (one_key shards s key mode (sym e))
+    there shards s false e = sym (no_key shards s key mode (sym e))
 
 -- ---- the strongest of some keys
 

@@ -1,5 +1,5 @@
 -- The footprint of a call: what it asks for on each shard.
-use Rattle.std.specs.Prelude.{ℕ, ◌==◌, Bool, false, ◌||◌, cond, nat_lt, is_some, Option, Some, None, List, [], ◌∷◌, ◌++◌}
+use Rattle.std.specs.Prelude.{◌≡◌, ℕ, ◌<◌, ◌==◌, Bool, false, ◌||◌, cond, nat_lt, is_some, Option, Some, None, List, [], ◌∷◌, ◌++◌}
 use Rattle.std.specs.Ordering.{nat_cmp}
 use Rattle.std.specs.Cmp.Lexicographic.{slice_cmp}
 use Rattle.std.specs.FinMap.{FinMap}
@@ -121,3 +121,23 @@ footprint_of_commands shards s commands =
 -- what a call asks for on a shard, if anything; there is no shard past the last
 abbrev pub footprint_of : ℕ → Call → ℕ → Option Keys
 footprint_of shards call s = cond (nat_lt s shards) (footprint_of_commands shards s (commands_of call)) None
+
+-- ---- calls of one key
+
+-- the key of a command of one key
+abbrev pub key_of : Command → Option Bytes
+key_of (Plain op) = None
+key_of (One key op) = Some key
+key_of (Many op) = None
+key_of (Whole op) = None
+key_of (Wrong error) = None
+
+-- the key of a call that is a single command of one key
+abbrev pub only_key : Call → Option Bytes
+only_key (Single command) = key_of command
+only_key (Exec commands) = None
+
+-- of the shard where the key stands the call asks for this key alone, in this mode, and of the others for nothing
+abbrev pub AsksAlone : Call → Bytes → Mode → Type 0
+AsksAlone call key mode =
+    (shards s : ℕ) → s < shards → footprint_of shards call s ≡ cond (shard_of key shards == s) (Some (kinds.Some (all_of ((key, mode) ∷ [])))) None

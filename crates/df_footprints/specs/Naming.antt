@@ -1,5 +1,6 @@
--- What the private calls that go over a command's keys answer.
-use Rattle.std.specs.Prelude.{◌≡◌, List, [], ◌∷◌, ◌++◌}
+-- What the calls that lend the keys of a command answer, and those that go over them.
+use Rattle.std.specs.Prelude.{◌≡◌, Option, Some, None, List, [], ◌∷◌, ◌++◌}
+use Rattle.std.specs.Borrow.{Bor}
 use Rattle.std.specs.FinMap as fin
 use Rattle.df_model.specs.Values.{Bytes}
 use Rattle.df_model.specs.Outcomes.{KeyRow}
@@ -13,6 +14,11 @@ use Rattle.df_footprints.specs.Footprints.{Modes, in_mode, with_modes}
 abbrev pub mode_of_row : KeyRow → Mode
 mode_of_row (KeyRow.Looks row) = Shared
 mode_of_row (KeyRow.Changes row) = Exclusive
+
+-- the key that is lent, if one is
+abbrev pub key_lent : Option (Bor Bytes × Mode) → Option Bytes
+key_lent None = None
+key_lent (Some asked) = Some asked.0.now
 
 -- the keys that are lent, each with its mode
 abbrev pub keys_named : Named → List (Bytes × Mode)

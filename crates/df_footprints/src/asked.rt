@@ -1,8 +1,10 @@
 //! What a call asks for on a shard.
 
-ghost use Rattle.std.specs.Prelude.{◌≡◌, ◌<◌, ◌∷◌, [], IfOk};
+ghost use Rattle.std.specs.Prelude.{◌≡◌, ◌<◌, ◌∷◌, [], IfOk, IfSome};
 ghost use Rattle.std.specs.FinMap as fin;
-ghost use Rattle.df_footprints.specs.Footprints.{footprint_of, footprint_of_commands, on_shard, some_keys, with_modes};
+ghost use Rattle.df_model.specs.declared.command.Call.TheVariants.{Single};
+ghost use Rattle.df_footprints.specs.Footprints.{AsksAlone, footprint_of, footprint_of_commands, key_of, on_shard, only_key, some_keys, with_modes};
+ghost use Rattle.df_footprints.specs.Naming.{key_lent};
 
 use crate::gather::{Place, add_named, into_keys};
 use crate::mode::{mode_of_all, mode_of_whole, some_whole};
@@ -31,6 +33,28 @@ pub fn footprint(
     match call {
         Call::Single(command) => of_command(alloc, command, place),
         Call::Exec(commands) => of_commands(alloc, commands.as_slice(), place),
+    }
+}
+
+/// The key of a call that is a single command of one key, and the mode in which the call asks for it. No other call has
+/// one, nor has an EXEC of one such command. Takes no memory, and looks at no byte of the key.
+pub fn one_key(call: &Call) -> Option<(&Bin, Mode)>
+    ensures key { key_lent result ≡ only_key call.now }
+    ensures alone { IfSome result (λ asked. AsksAlone call.now asked.0.now asked.1) }
+{
+    match call {
+        Call::Single(command) => one_key_of(command),
+        Call::Exec(_) => None,
+    }
+}
+
+fn one_key_of(command: &Command) -> Option<(&Bin, Mode)>
+    ensures key { key_lent result ≡ key_of command.now }
+    ensures alone { IfSome result (λ asked. AsksAlone (Single command.now) asked.0.now asked.1) }
+{
+    match command {
+        Command::One(key, op) => Some((key, mode_of(op))),
+        Command::Plain(_) | Command::Many(_) | Command::Whole(_) | Command::Wrong(_) => None,
     }
 }
 

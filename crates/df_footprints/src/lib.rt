@@ -7,5 +7,5 @@ mod laws;
 mod mode;
 mod named;
 
-pub use asked::footprint;
+pub use asked::{footprint, one_key};
 pub use laws::{conflicts_both_ways, what_does_not_conflict_is_left_alone};

@@ -1,6 +1,6 @@
 -- Laws of asks: how many there are, and when the counts tell that none clashes.
 use Rattle.std.proofs.Common.{◌≡◌, ℕ, ◌+◌, ◌<◌, ◌≤◌, Bool, true, false, cond, ◌==◌, ◌&&◌, ◌||◌, List, [], ◌∷◌, ◌++◌, length, refl, sym, ap, subst, ◌∙◌, add_assoc, zero-add, arith}
-use Rattle.std.proofs.lemmas.Bool.{eq-eqb}
+use Rattle.std.proofs.lemmas.Bool.{eq-eqb, false≢true}
 use Rattle.std.proofs.lemmas.Bool.Decides.{Decides-eqb}
 use Rattle.std.proofs.lemmas.Slice.Eq.{slice_eq-Decides}
 use Rattle.std.specs.Prelude.{Option, Some, None, nat_lt}
@@ -9,7 +9,7 @@ use Rattle.df_model.specs.Words.{same}
 use Rattle.df_model.specs.Hash.{fnv64}
 use Rattle.df_model.specs.declared.keys.Mode.{Mode}
 use Rattle.df_model.specs.declared.keys.Mode.TheVariants.{Shared, Exclusive}
-use Rattle.df_footprints.specs.Asks.{Ask, clash, clashes_with, is_exclusive, some_clash}
+use Rattle.df_footprints.specs.Asks.{Ask, clash, clashes_with, is_exclusive, overlap, some_clash}
 use Rattle.df_intents.specs.Counting.{counted, counts, for_all, for_key, has_hash, is_all, is_any, opposes}
 
 -- ---- counts
@@ -74,6 +74,20 @@ some_all key m (b ∷ bs) lt = first b.key lt (some_all key m bs)
         → (clash (for_key key m) (record { key = k; mode = b.mode }) || clashes_with (for_key key m) bs) ≡ true
     first None lt more = over (opposes m b.mode) (counted is_all m bs) (clashes_with (for_key key m) bs) lt more
     first (Some k) lt more = ap (λ r. (same key k && opposes m b.mode) || r) (more (omega (arith, lt))) ∙ or_true (same key k && opposes m b.mode)
+
+-- what is in the way of an ask for one key is in the way of one for all
+pub none_all : (key : Bytes) (m : Mode) (bs : List Ask) → clashes_with (for_all m) bs ≡ false → clashes_with (for_key key m) bs ≡ false
+none_all key m [] e = refl
+none_all key m (b ∷ bs) e = first b.key (opposes m b.mode) refl e (none_all key m bs)
+  where
+    apart : (s : Bool) → (s && false) ≡ false
+    apart true = refl
+    apart false = refl
+
+    first : (k : Option Bytes) (o : Bool) → opposes m b.mode ≡ o → (o || clashes_with (for_all m) bs) ≡ false → (clashes_with (for_all m) bs ≡ false → clashes_with (for_key key m) bs ≡ false)
+        → ((overlap (Some key) k && o) || clashes_with (for_key key m) bs) ≡ false
+    first k true t e more = absurd (false≢true (sym e))
+    first k false t e more = ap (λ r. r || clashes_with (for_key key m) bs) (apart (overlap (Some key) k)) ∙ more e
 
 same_is : (key other : Bytes) → same key other ≡ true → key ≡ other
 same_is key other e = (slice_eq-Decides Decides-eqb key other (same key other) refl).0 e

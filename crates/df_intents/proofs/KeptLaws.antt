@@ -1,15 +1,16 @@
 -- Laws of what always holds of the intents of a shard, after a take and after a release.
 use Rattle.std.proofs.Common.{◌≡◌, ℕ, suc, ◌+◌, ◌-◌, ◌<◌, ◌≤◌, ◌^◌, Bool, true, false, cond, List, [], ◌∷◌, ◌++◌, length, min, not, refl, sym, ap, ◌∙◌, arith, length-append}
 use Rattle.std.specs.Prelude.{Option, Some, None, is_some, nat_eq, if◌then◌else◌}
+use Rattle.std.proofs.Math.Bool.{or-false}
 use Rattle.std.specs.Map.{lookup}
 use Rattle.df_model.specs.Values.{Bytes}
 use Rattle.df_model.specs.declared.keys.Mode.{Mode}
 use Rattle.df_model.specs.declared.keys.Mode.TheVariants.{Exclusive}
 use Rattle.df_model.specs.declared.keys.Keys.{Keys}
 use Rattle.df_model.specs.declared.keys.Keys.TheVariants as kinds
-use Rattle.df_footprints.specs.Asks.{Ask, asks, asks_for, some_clash}
-use Rattle.df_intents.specs.Holders.{Holder, count_of, room_of, is_free, keys_of, without}
-use Rattle.df_intents.specs.Counting.{counted, held}
+use Rattle.df_footprints.specs.Asks.{Ask, asks, asks_for, clashes_with, some_clash}
+use Rattle.df_intents.specs.Holders.{Holder, count_of, room_of, is_free, just, keys_of, without}
+use Rattle.df_intents.specs.Counting.{counted, for_key, held}
 use Rattle.df_intents.specs.Index.{Counts}
 use Rattle.df_intents.specs.Kept.{Kept}
 use Rattle.df_intents.specs.declared.grant.Grant.TheVariants.{Free, Waits}
@@ -96,3 +97,6 @@ granted keys hs opposed is = turned opposed ∙ ap (λ b. if b then Free else Wa
     turned : (b : Bool) → cond b Waits Free ≡ (if not b then Free else Waits)
     turned true = refl
     turned false = refl
+
+pub granted_key : (key : Bytes) (mode : Mode) (hs : List Holder) (opposed : Bool) → opposed ≡ clashes_with (for_key key mode) (held hs) → cond opposed Waits Free ≡ (if is_free (just key mode) hs then Free else Waits)
+granted_key key mode hs opposed is = granted (just key mode) hs opposed (is ∙ sym (or-false (clashes_with (for_key key mode) (held hs))))

@@ -1,5 +1,8 @@
 -- The holders of intents on a shard, and who conflicts with them.
 use Rattle.std.specs.Prelude.{ℕ, ◌==◌, Bool, true, ◌&&◌, not, max, cond, length, is_some, Option, Some, None, List, [], ◌∷◌}
+use Rattle.df_model.specs.Values.{Bytes}
+use Rattle.df_model.specs.Spared.{all_of}
+use Rattle.df_model.specs.declared.keys.Mode.{Mode}
 use Rattle.df_model.specs.declared.keys.Keys.{Keys}
 use Rattle.df_model.specs.declared.keys.Keys.TheVariants as kinds
 use Rattle.df_footprints.specs.Asks.{conflicts}
@@ -26,6 +29,10 @@ holds number hs = is_some (keys_of number hs)
 abbrev pub is_free : Keys → List Holder → Bool
 is_free keys [] = true
 is_free keys (h ∷ hs) = not (conflicts keys h.keys) && is_free keys hs
+
+-- one key alone, in this mode
+abbrev pub just : Bytes → Mode → Keys
+just key mode = kinds.Some (all_of ((key, mode) ∷ []))
 
 -- the holders that have other numbers than this, in their order
 abbrev pub without : ℕ → List Holder → List Holder

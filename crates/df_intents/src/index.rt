@@ -134,6 +134,36 @@ impl Index {
         }
     }
 
+    /// Whether somebody opposes an ask for all keys.
+    pub(crate) fn opposes_all(&self, mode: Mode) -> bool
+        ensures { (bs : List Ask) → Counts self.now bs → result ≡ clashes_with (for_all mode) bs }
+    {
+        self.asks.against(mode) > 0
+    }
+
+    /// Whether somebody opposes an ask for this key, whose hash is given. Where nobody who is in the way of an ask
+    /// for all keys asks for anything, that is one comparison.
+    pub(crate) fn opposes_key(
+        &self,
+        holders: &HashMap<u64, Keys>,
+        hash: u64,
+        key: &Bin,
+        mode: Mode,
+    ) -> bool
+        requires { hash ≡ fnv64 key.now }
+        ensures { (hs : List Holder) → Once hs → Tells holders.now.entries hs → Counts self.now (held hs) → result ≡ clashes_with (for_key key.now mode) (held hs) }
+    {
+        if !self.opposes_all(mode) {
+            return false;
+        }
+        if self.alls.against(mode) > 0 {
+            return true;
+        }
+        let tally = self.tally(hash);
+        let holder = tally.find(holders, key, mode);
+        holder.is_some()
+    }
+
     fn enter_all(&mut self, mode: Mode) -> bool
         ensures counts { (bs : List Ask) → length bs + 1 < 2 ^ 64 → Counts self.old bs → Counts self.new (for_all mode ∷ bs) }
         ensures exact { (bs : List Ask) → Counts self.old bs → result ≡ clashes_with (for_all mode) bs }

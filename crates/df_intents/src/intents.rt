@@ -5,12 +5,16 @@
 //! and a release cost what their own keys cost, however many others hold.
 
 ghost use Rattle.std.specs.Prelude.{◌≡◌, ◌+◌, ◌<◌, ◌≤◌, ◌∷◌, [], length, Some, true, false, OnOk, if◌then◌else◌};
-ghost use Rattle.df_intents.specs.Holders.{holds, is_free, keys_of, room_of, without};
+ghost use Rattle.df_model.specs.Hash.{fnv64};
+ghost use Rattle.df_footprints.specs.Asks.{asks, asks_for, clashes_with, some_clash};
+ghost use Rattle.df_intents.specs.Holders.{holds, is_free, just, keys_of, room_of, without};
+ghost use Rattle.df_intents.specs.Counting.{for_all, for_key, held};
 
 use crate::grant::Grant;
 use crate::index::Index;
 use crate::trail::Trail;
-use df_model::{Keys, NoMemory};
+use df_model::{Bin, Keys, Mode, NoMemory};
+use df_text::fnv64;
 use std::alloc::Global;
 use std::collections::HashMap;
 use std::marker::Model;
@@ -105,6 +109,61 @@ impl Intents {
         } else {
             Grant::Free
         }
+    }
+
+    /// What `take` of this one key would answer, to a caller that has hashed the key. Changes nothing. With no holder it
+    /// costs one comparison.
+    pub fn grant_key(&self, hash: u64, key: &Bin, mode: Mode) -> Grant
+        requires { hash ≡ fnv64 key.now }
+        ensures { result ≡ (if is_free (just key.now mode) self.now.holders then Grant.Free else Grant.Waits) }
+    {
+        if self.opposes_key(hash, key, mode) {
+            Grant::Waits
+        } else {
+            Grant::Free
+        }
+    }
+
+    /// Whether `take` of these keys would answer Free. Changes nothing. With no holder it costs a comparison for each
+    /// key, and its hash.
+    pub fn is_free(&self, keys: &Keys) -> bool
+        ensures { result ≡ is_free keys.now self.now.holders }
+    {
+        !self.opposes(keys)
+    }
+
+    /// Whether an ask of a holder clashes with one of these.
+    fn opposes(&self, keys: &Keys) -> bool
+        ensures { result ≡ some_clash (asks keys.now) (held self.now.holders) }
+    {
+        match keys {
+            Keys::All(mode) => self.opposes_all(*mode),
+            Keys::Some(modes) => self.opposes_some(modes.as_slice()),
+        }
+    }
+
+    fn opposes_all(&self, mode: Mode) -> bool
+        ensures { result ≡ clashes_with (for_all mode) (held self.now.holders) }
+    {
+        self.index.opposes_all(mode)
+    }
+
+    fn opposes_some(&self, modes: &[(Bin, Mode)]) -> bool
+        ensures { result ≡ some_clash (asks_for modes.now) (held self.now.holders) }
+    {
+        'asks: for (key, mode) in modes {
+            if self.opposes_key(fnv64(key.as_slice()), key, *mode) {
+                return true;
+            }
+        }
+        false
+    }
+
+    fn opposes_key(&self, hash: u64, key: &Bin, mode: Mode) -> bool
+        requires { hash ≡ fnv64 key.now }
+        ensures { result ≡ clashes_with (for_key key.now mode) (held self.now.holders) }
+    {
+        self.index.opposes_key(&self.holders, hash, key, mode)
     }
 
     /// Takes from the call what it holds, and hands it out. Takes no memory.
