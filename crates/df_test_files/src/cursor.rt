@@ -41,9 +41,12 @@ fn a_file_of_redis_server_is_read_byte_by_byte(rt: HostRuntime) -> Result<(), Fa
     let mut given = Vec::new(rt.alloc());
     let mut fed = 0;
     'forms: for form in FORMS {
-        'feed: while fed < SAVED.len() && !take(rt.alloc(), *form, &mut cursor, &mut given)? {
-            cursor.feed(&SAVED[fed..fed + 1])?;
-            fed += 1;
+        'feed: for at in fed..SAVED.len() {
+            if take(rt.alloc(), *form, &mut cursor, &mut given)? {
+                break 'feed;
+            }
+            cursor.feed(&SAVED[at..at + 1])?;
+            fed = at + 1;
         }
     }
     assert_eq!(rt; given.as_slice(), READ);
