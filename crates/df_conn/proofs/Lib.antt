@@ -9,3 +9,4 @@ pub mod CallLaws
 pub mod RestLaws
 pub mod StartLaws
 pub mod WorkLaws
+pub mod AwayLaws

@@ -255,6 +255,34 @@ cut_at stages.Calling why = why
 cut_at (stages.Closing closing) why = cut_off closing why
 cut_at (stages.Over over) why = why
 
+-- it ends as one too many
+abbrev pub is_too_many : Why → Bool
+is_too_many ends.InputEnd = false
+is_too_many ends.Quit = false
+is_too_many ends.Asked = false
+is_too_many ends.Stopped = false
+is_too_many (ends.Protocol kind at) = false
+is_too_many ends.ReadFault = false
+is_too_many ends.WriteFault = false
+is_too_many ends.TooMany = true
+is_too_many ends.Spent = false
+is_too_many ends.NoMemory = false
+
+-- it is turned away, or ended so
+abbrev pub is_away : Stage → Bool
+is_away stages.Open = false
+is_away stages.Calling = false
+is_away (stages.Closing why) = is_too_many why
+is_away (stages.Over why) = is_too_many why
+
+-- A session that is served is never turned away later, and one that is turned away is never served: it may only end by
+-- another cause.
+abbrev pub StaysServed : Stage → Stage → Type 0
+StaysServed old stages.Open = is_away old ≡ false
+StaysServed old stages.Calling = is_away old ≡ false
+StaysServed old (stages.Closing why) = is_too_many why ≡ is_away old
+StaysServed old (stages.Over why) = is_too_many why ≡ true → is_away old ≡ true
+
 abbrev pub Turned : Turn → Bool → Sight → Sight → Type 0
 Turned turns.Moved stopping old new = Going new × IsGoing new.stage × Moves old new
 Turned turns.NotYet stopping old new = Going new × IsGoing new.stage × Stalls old new

@@ -11,7 +11,7 @@
 
 ghost use Rattle.std.specs.Prelude.{◌≡◌, ◌⊎◌, ◌<◌, ◌≤◌, None, [], true, length, IfOk, MatchOption};
 ghost use Rattle.df_model.specs.Spoken.{MAX_OPEN};
-ghost use Rattle.df_conn.specs.Turns.{see, Going, IsGoing, IsWriting, Turned, Rests, Ended, is_over, waiting_in, cut_at, turned_away_line as expected_line};
+ghost use Rattle.df_conn.specs.Turns.{see, Going, IsGoing, IsWriting, Turned, Rests, Ended, StaysServed, is_away, is_over, is_too_many, waiting_in, cut_at, turned_away_line as expected_line};
 
 use crate::answer::SHORT;
 use crate::talk::{Taken, Talk};
@@ -111,6 +111,7 @@ impl<L: Link, C: Caller> Conn<L, C> {
         ensures ran { C.ran self.new.caller ≡ C.ran self.old.caller }
         ensures id { self.new.id ≡ self.old.id }
         ensures first { self.new.first.value ≡ self.old.first.value }
+        ensures served { StaysServed self.old.stage self.new.stage }
     {
         match self.stage {
             Stage::Calling => self.go_on(stopping),
@@ -137,6 +138,7 @@ impl<L: Link, C: Caller> Conn<L, C> {
         ensures ran { C.ran self.new.caller ≡ C.ran self.old.caller }
         ensures id { self.new.id ≡ self.old.id }
         ensures first { self.new.first.value ≡ self.old.first.value }
+        ensures served { StaysServed self.old.stage self.new.stage }
     {
         match self.caller.step() {
             Went::Pending => Turn::NotYet,
@@ -182,6 +184,7 @@ impl<L: Link, C: Caller> Conn<L, C> {
         ensures ran { C.ran self.new.caller ≡ C.ran self.old.caller }
         ensures id { self.new.id ≡ self.old.id }
         ensures first { self.new.first.value ≡ self.old.first.value }
+        ensures served { StaysServed self.old.stage self.new.stage }
     {
         if let Some(turn) = self.take_next(stopping) {
             return turn;
@@ -204,6 +207,7 @@ impl<L: Link, C: Caller> Conn<L, C> {
         ensures ran { C.ran self.new.caller ≡ C.ran self.old.caller }
         ensures id { self.new.id ≡ self.old.id }
         ensures first { self.new.first.value ≡ self.old.first.value }
+        ensures served { StaysServed self.old.stage self.new.stage }
     {
         match self.talk.take() {
             Taken::Replied => Some(Turn::Moved),
@@ -240,6 +244,7 @@ impl<L: Link, C: Caller> Conn<L, C> {
         ensures ran { C.ran self.new.caller ≡ C.ran self.old.caller }
         ensures id { self.new.id ≡ self.old.id }
         ensures first { self.new.first.value ≡ self.old.first.value }
+        ensures served { StaysServed self.old.stage self.new.stage }
     {
         if self.talk.waiting() > 0 {
             return self.write(stopping);
@@ -257,6 +262,7 @@ impl<L: Link, C: Caller> Conn<L, C> {
         ensures ran { C.ran self.new.caller ≡ C.ran self.old.caller }
         ensures id { self.new.id ≡ self.old.id }
         ensures first { self.new.first.value ≡ self.old.first.value }
+        ensures served { StaysServed self.old.stage self.new.stage }
     {
         if self.talk.waiting() > 0 {
             return self.write(stopping);
@@ -273,6 +279,7 @@ impl<L: Link, C: Caller> Conn<L, C> {
         ensures ran { C.ran self.new.caller ≡ C.ran self.old.caller }
         ensures id { self.new.id ≡ self.old.id }
         ensures first { self.new.first.value ≡ self.old.first.value }
+        ensures served { StaysServed self.old.stage self.new.stage }
     {
         if self.talk.waiting() > 0 {
             return self.write(stopping);
@@ -290,6 +297,7 @@ impl<L: Link, C: Caller> Conn<L, C> {
         ensures ran { C.ran self.new.caller ≡ C.ran self.old.caller }
         ensures id { self.new.id ≡ self.old.id }
         ensures first { self.new.first.value ≡ self.old.first.value }
+        ensures served { StaysServed self.old.stage self.new.stage }
     {
         match self.link.write(self.talk.rest()) {
             Put::Took(count) => {
@@ -326,6 +334,7 @@ impl<L: Link, C: Caller> Conn<L, C> {
         ensures ran { C.ran self.new.caller ≡ C.ran self.old.caller }
         ensures id { self.new.id ≡ self.old.id }
         ensures first { self.new.first.value ≡ self.old.first.value }
+        ensures served { StaysServed self.old.stage self.new.stage }
     {
         match self.link.read(buffer) {
             Got::Took(count) => {
@@ -372,6 +381,16 @@ impl<L: Link, C: Caller> Conn<L, C> {
         matches!(self.stage, Stage::Over(_))
     }
 
+    /// Whether it is turned away, or ended so.
+    pub fn is_away(&self) -> bool
+        ensures { result ≡ is_away self.now.stage }
+    {
+        match self.stage {
+            Stage::Closing(why) | Stage::Over(why) => is_too_many(why),
+            Stage::Open | Stage::Calling => false,
+        }
+    }
+
     /// Bytes of output that it keeps.
     pub fn output_len(&self) -> usize
         ensures { result ≡ length self.now.talk.output.items }
@@ -404,6 +423,24 @@ impl<L: Link, C: Caller> Conn<L, C> {
         } = self;
         link.close();
         (SessionEnd { id, link, why }, caller, first)
+    }
+}
+
+/// Whether a session that ends so is one too many.
+fn is_too_many(why: Why) -> bool
+    ensures { result ≡ is_too_many why }
+{
+    match why {
+        Why::TooMany => true,
+        Why::InputEnd
+        | Why::Quit
+        | Why::Asked
+        | Why::Stopped
+        | Why::Protocol(_, _)
+        | Why::ReadFault
+        | Why::WriteFault
+        | Why::Spent
+        | Why::NoMemory => false,
     }
 }
 

@@ -10,7 +10,7 @@ use Rattle.df_outside.specs.Faults.{Rose}
 use Rattle.df_outside.specs.Streams.{Outflow}
 use Rattle.df_outside.specs.Doors.{Hall, IsTold}
 use Rattle.df_sessions.specs.Sessions.{Parted}
-use Rattle.df_sessions.specs.AllSessions.{AnyAsked, Promises, IsToldSo}
+use Rattle.df_sessions.specs.AllSessions.{AnyAsked, Promises, IsToldSo, IsLate}
 use Rattle.df_sessions.specs.Entries.{GaveSince}
 use Rattle.df_sessions.specs.declared.rounds.Entry.{Entry}
 use Rattle.df_sessions.specs.declared.rounds.Entry.TheVariants as entries
@@ -94,6 +94,8 @@ pub record HasServed (run : ServeRun) : Type 0 where
   pub stopped : AllByRecursion (λ (p : Parted). p.why ≡ ends.Stopped → AnyAsked run.sessions) run.sessions
   -- a session that was turned away took nothing and was told so, unless a write failed or one asked for the end of all
   pub turned_away : AllByRecursion (IsToldSo (AnyAsked run.sessions)) run.sessions
+  -- and as many came before it that were not turned away as are served together at the most
+  pub late : AllByRecursion (IsLate run.sessions) run.sessions
   pub cause : ((run.status ≡ 0) × (AnyAsked run.sessions ⊎ IsTold true run.hall.shut)) ⊎ ((run.status ≡ 6) × Rose run.hall_before.faults run.hall.faults)
 
 -- words that are no `serve`: nothing but the usage line

@@ -5,7 +5,7 @@ use Rattle.df_model.specs.declared.session.Turn.{Turn}
 use Rattle.df_model.specs.declared.session.Turn.TheVariants as turns
 use Rattle.df_outside.specs.Links.{Flow, Spends}
 use Rattle.df_caller.specs.Calling.{Calling}
-use Rattle.df_conn.specs.Turns.{Sight, At, see, Going, Turned, TurnedAway, Causes, Moves, rank, waiting}
+use Rattle.df_conn.specs.Turns.{Sight, At, see, Going, StaysServed, Turned, TurnedAway, Causes, Moves, rank, waiting}
 use Rattle.df_conn.specs.declared.conn.Stage.{Stage}
 use Rattle.df_conn.specs.declared.conn.Stage.TheVariants as stages
 use Rattle.df_conn.proofs.WorkLaws.{falls, never_stalls}
@@ -111,4 +111,4 @@ pub due_served : (middle new : DeskState) (K after : Keyspace) → Served middle
 due_served middle new K after s = ap (λ c. c.due) s.calling
 
 pub sat_after : (stopping : Bool) (turn : Turn) (old middle new : Sitting) → Sat stopping turn old middle → Same middle new → Sat stopping turn old new
-sat_after stopping turn old middle new s same = record { id = same.id ∙ s.id; first = same.first ∙ s.first; stage = subst (StageAt turn) (sym same.stage) s.stage; halts = halts_after turn stopping middle new s.halts same; nearer = nearer_after turn old middle new s.nearer same }
+sat_after stopping turn old middle new s same = record { id = same.id ∙ s.id; first = same.first ∙ s.first; stage = subst (StageAt turn) (sym same.stage) s.stage; halts = halts_after turn stopping middle new s.halts same; nearer = nearer_after turn old middle new s.nearer same; served = subst (StaysServed old.stage) (sym same.stage) s.served }

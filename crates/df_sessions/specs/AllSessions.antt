@@ -1,19 +1,19 @@
 -- All sessions of one table, open and ended, and the one list of their calls.
-use Rattle.std.specs.Prelude.{◌≡◌, ◌⊎◌, ℕ, ◌+◌, ◌≤◌, ◌<◌, Bool, true, cond, eqb, ltb, List, [], ◌∷◌, ◌++◌}
+use Rattle.std.specs.Prelude.{◌≡◌, ◌⊎◌, ℕ, ◌+◌, ◌≤◌, ◌<◌, Bool, true, false, cond, eqb, ltb, List, [], ◌∷◌, ◌++◌}
 use Rattle.std.specs.List.{AllByRecursion, sum_by}
 use Rattle.std.specs.Io.KnownBytes.{Appends}
 use Rattle.df_model.specs.Values.{Bytes}
 use Rattle.df_model.specs.Keyspace.{Keyspace}
 use Rattle.df_model.specs.Calls.{Allowed}
 use Rattle.df_model.specs.History.{Item, IsLegal, IsOrdered, each_call}
-use Rattle.df_model.specs.Spoken.{Session, Spoke}
+use Rattle.df_model.specs.Spoken.{Session, Spoke, MAX_OPEN}
 use Rattle.df_model.specs.declared.session.Turn.{Turn}
 use Rattle.df_model.specs.declared.session.Turn.TheVariants as turns
 use Rattle.df_model.specs.declared.session.Why.{Why}
 use Rattle.df_model.specs.declared.session.Why.TheVariants as ends
 use Rattle.df_outside.specs.Doors.{IsFresh}
 use Rattle.df_caller.specs.Told.{Told}
-use Rattle.df_conn.specs.Turns.{IsGoing, Proven, TurnedAway, session_of}
+use Rattle.df_conn.specs.Turns.{IsGoing, Proven, TurnedAway, is_away, is_too_many, session_of}
 use Rattle.df_desk.specs.OneTable.{OneTable, of_session}
 use Rattle.df_sessions.specs.Sessions.{Sitting, Parted, HasSpoken}
 
@@ -68,6 +68,37 @@ LeavesSeats (turns.Ended why) before now = now + 1 ≡ before
 
 abbrev pub AllGoing : List Sitting → Type 0
 AllGoing seats = AllByRecursion (λ (s : Sitting). IsGoing s.stage) seats
+
+-- ---- who is turned away
+
+-- how many of the open sessions are served
+abbrev pub count_served : List Sitting → ℕ
+count_served seats = sum_by (λ (s : Sitting). cond (is_away s.stage) 0 1) seats
+
+-- 1 for a session that is served, or was, with a place before this one
+abbrev pub open_before : ℕ → Sitting → ℕ
+open_before n s = cond (is_away s.stage) 0 (at_below n s.id)
+
+abbrev pub gone_before : ℕ → Parted → ℕ
+gone_before n p = cond (is_too_many p.why) 0 (at_below n p.id)
+
+abbrev pub served_before : ℕ → List Sitting → List Parted → ℕ
+served_before n seats gone = sum_by (open_before n) seats + sum_by (gone_before n) gone
+
+-- no more are served at once than may be, and a session is turned away only behind as many that are served, or were
+pub record Crowd (count : ℕ) (seats : List Sitting) (gone : List Parted) : Type 0 where
+  pub most : count_served seats ≤ MAX_OPEN
+  pub below : AllByRecursion (λ (s : Sitting). s.id < count) seats
+  pub open_late : AllByRecursion (λ (s : Sitting). is_away s.stage ≡ true → MAX_OPEN ≤ served_before s.id seats gone) seats
+  pub gone_late : AllByRecursion (λ (p : Parted). is_too_many p.why ≡ true → MAX_OPEN ≤ served_before p.id seats gone) gone
+
+-- a session that was turned away had so many before it that were not
+abbrev pub IsLate : List Parted → Parted → Type 0
+IsLate gone p = p.why ≡ ends.TooMany → MAX_OPEN ≤ sum_by (gone_before p.id) gone
+
+-- a session came in: it is served where fewer are than may be, and turned away exactly where as many are
+abbrev pub Enters : List Sitting → List Sitting → Type 0
+Enters old new = (s : Sitting) × (new ≡ old ++ s ∷ []) × (((is_away s.stage ≡ false) × (count_served old < MAX_OPEN)) ⊎ ((is_away s.stage ≡ true) × (count_served old ≡ MAX_OPEN)))
 
 -- ---- why sessions ended
 

@@ -1,7 +1,9 @@
 -- How links come in, and what is known of the door since the start.
-use Rattle.std.specs.Prelude.{◌≡◌, ℕ, ◌+◌, ◌≤◌, Bool, true, Option, Some, None}
+use Rattle.std.specs.Prelude.{◌≡◌, ℕ, ◌+◌, ◌≤◌, Bool, true, List, Option, Some, None}
 use Rattle.df_outside.specs.Faults.{Rose}
 use Rattle.df_outside.specs.Doors.{Hall, OneMore, IsTold, StaysOpen}
+use Rattle.df_sessions.specs.Sessions.{Sitting}
+use Rattle.df_sessions.specs.AllSessions.{Enters}
 use Rattle.df_sessions.specs.declared.table_sessions.Met.{Met}
 use Rattle.df_sessions.specs.declared.table_sessions.Met.TheVariants as met
 use Rattle.df_sessions.specs.declared.rounds.Entry.{Entry}
@@ -13,6 +15,13 @@ Meets met.Entered old new before now = OneMore old.given new.given × (old.fault
 Meets met.Nobody old new before now = StaysOpen old new × (now ≡ before)
 Meets met.Closed old new before now = (new.given ≡ old.given) × (old.faults ≤ new.faults) × (now ≡ before) × IsTold true new.shut
 Meets met.Failed old new before now = StaysOpen old new × (now ≡ before) × Rose old.faults new.faults
+
+-- who is open after one look at the door
+abbrev pub EntersFor : Met → List Sitting → List Sitting → Type 0
+EntersFor met.Entered old new = Enters old new
+EntersFor met.Nobody old new = new ≡ old
+EntersFor met.Closed old new = new ≡ old
+EntersFor met.Failed old new = new ≡ old
 
 -- so many links were handed out since, where that is told
 abbrev pub GaveSince : Option ℕ → Option ℕ → ℕ → Type 0

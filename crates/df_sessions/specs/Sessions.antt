@@ -9,7 +9,7 @@ use Rattle.df_model.specs.declared.session.Why.{Why}
 use Rattle.df_model.specs.declared.session.Why.TheVariants as ends
 use Rattle.df_outside.specs.Links.{Flow, Spends}
 use Rattle.df_caller.specs.Told.{Told, told_items}
-use Rattle.df_conn.specs.Turns.{IsGoing, Proven, TurnedAway, session_of, rank}
+use Rattle.df_conn.specs.Turns.{IsGoing, Proven, StaysServed, TurnedAway, is_away, session_of, rank}
 use Rattle.df_conn.specs.declared.conn.Stage.{Stage}
 use Rattle.df_conn.specs.declared.conn.Stage.TheVariants as stages
 use Rattle.df_desk.specs.States.{DeskState}
@@ -46,8 +46,8 @@ ComesNearer turns.Moved old new = is_some old.flow.left ≡ true → (is_some ne
 ComesNearer turns.NotYet old new = is_some old.flow.left ≡ true → old.desk.calling.due ≡ true → ⊥
 ComesNearer (turns.Ended why) old new = Unit {0}
 
--- a session at its start
-pub record Sits (s : Sitting) (id : ℕ) (flow : Flow) : Type 0 where
+-- a session at its start: served, or turned away
+pub record Sits (s : Sitting) (id : ℕ) (flow : Flow) (away : Bool) : Type 0 where
   pub id_is : s.id ≡ id
   pub going : IsGoing s.stage
   pub none : s.desk.ran ≡ []
@@ -55,6 +55,7 @@ pub record Sits (s : Sitting) (id : ℕ) (flow : Flow) : Type 0 where
   -- where the link has a limit, it has it still
   pub limited : is_some flow.left ≡ true → is_some s.flow.left ≡ true
   pub due : s.desk.calling.due ≡ true
+  pub away_is : is_away s.stage ≡ away
 
 -- all but the mailbox
 pub record Same (old new : Sitting) : Type 0 where
@@ -82,6 +83,7 @@ pub record Sat (stopping : Bool) (turn : Turn) (old new : Sitting) : Type 0 wher
   pub first : new.first ≡ old.first
   pub stage : StageAt turn new.stage
   pub halts : HaltsFor stopping turn new
+  pub served : StaysServed old.stage new.stage
   pub nearer : ComesNearer turn old new
 
 -- a call that was served is due

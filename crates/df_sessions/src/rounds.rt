@@ -2,7 +2,8 @@
 
 ghost use Rattle.std.specs.Prelude.{◌≡◌, ◌<◌, [], true, length};
 ghost use Rattle.df_outside.specs.Doors.{Hall};
-ghost use Rattle.df_sessions.specs.AllSessions.{EndsFor, Promises};
+ghost use Rattle.std.specs.List.{AllByRecursion};
+ghost use Rattle.df_sessions.specs.AllSessions.{EndsFor, IsLate, Promises};
 ghost use Rattle.df_sessions.specs.Entries.{IsDone, Since};
 
 use crate::gone::Gone;
@@ -51,6 +52,7 @@ pub fn serve<R: Wait, D: Door>(
     ensures done { IsDone result.asked result.entry }
     ensures promises { Promises table.keys result.count result.sessions.items }
     ensures ends { EndsFor result.asked result.sessions.items }
+    ensures late { AllByRecursion (IsLate result.sessions.items) result.sessions.items }
 {
     let mut sessions = TableSessions::new(alloc, table);
     let mut entry = Entry::Open;

@@ -1,7 +1,7 @@
 //! An open session.
 
-ghost use Rattle.std.specs.Prelude.{◌≡◌, ◌<◌, [], length, true};
-ghost use Rattle.df_conn.specs.Turns.{IsGoing, is_over};
+ghost use Rattle.std.specs.Prelude.{◌≡◌, ◌<◌, [], length, false, true};
+ghost use Rattle.df_conn.specs.Turns.{IsGoing, is_away, is_over};
 ghost use Rattle.df_sessions.specs.Sessions.{Sits, Sat, Same, Left, IsDueAfter};
 ghost use Rattle.df_sessions.specs.AllSessions.{Ran};
 ghost use Rattle.df_sessions.specs.Welcomes.{IsWelcome};
@@ -56,9 +56,9 @@ impl<L: Link, C: Caller> Seat<L, C> {
 }
 
 impl<L: Link> Seat<L, Desk> {
-    /// A session at its start.
+    /// A session at its start, which is served.
     pub fn new(alloc: Global, id: u64, link: L) -> Seat<L, Desk>
-        ensures { Sits result id (L.flow link) }
+        ensures { Sits result id (L.flow link) false }
     {
         Seat {
             conn: Conn::new(alloc, id, link, Desk::new()),
@@ -68,11 +68,18 @@ impl<L: Link> Seat<L, Desk> {
     /// One that is turned away, with this line.
     pub fn turned_away(alloc: Global, id: u64, link: L, line: Vec<u8>) -> Seat<L, Desk>
         requires { IsWelcome (Welcome.Away line) id }
-        ensures { Sits result id (L.flow link) }
+        ensures { Sits result id (L.flow link) true }
     {
         Seat {
             conn: Conn::turned_away(alloc, id, link, Desk::new(), line),
         }
+    }
+
+    /// Whether it is turned away.
+    pub fn is_away(&self) -> bool
+        ensures { result ≡ is_away self.now.stage }
+    {
+        self.conn.is_away()
     }
 
     /// Lets memory go that an idle session doesn't need.

@@ -1,8 +1,9 @@
 //! All sessions of one table.
 
 ghost use Rattle.std.specs.Prelude.{◌≡◌, ◌≤◌, ◌<◌, [], false, length};
-ghost use Rattle.df_sessions.specs.AllSessions.{EndsFor, LeavesSeats, Promises, asks_with};
-ghost use Rattle.df_sessions.specs.Entries.{Meets};
+ghost use Rattle.std.specs.List.{AllByRecursion};
+ghost use Rattle.df_sessions.specs.AllSessions.{EndsFor, IsLate, LeavesSeats, Promises, asks_with};
+ghost use Rattle.df_sessions.specs.Entries.{EntersFor, Meets};
 
 use crate::gone::Gone;
 use crate::quiet::Quiet;
@@ -51,7 +52,7 @@ impl<L: Link> Model for TableSessions<L> {
     ghost use Rattle.std.specs.Prelude.{◌+◌, ◌≤◌, vec_len, vec_capacity};
     ghost use Rattle.df_model.specs.contracts.reply.Reply as reply_type;
     ghost use Rattle.std.specs.Coded.{codes};
-    ghost use Rattle.df_sessions.specs.AllSessions.{AllSessions, Holds, AllGoing, EndsFor};
+    ghost use Rattle.df_sessions.specs.AllSessions.{AllSessions, Holds, AllGoing, EndsFor, Crowd};
     ghost use Rattle.df_model.specs.Values.{coded_value};
     ghost use Rattle.df_model.specs.Keyspace.{coded_keyspace};
 
@@ -61,7 +62,7 @@ impl<L: Link> Model for TableSessions<L> {
 
     ghost view = { λ s. record { start = s.start.value.keys; keys = s.table.keys; count = s.count; seats = s.seats.items; gone = s.gone.items; asked = s.asked } };
 
-    ghost invariant = { λ s. Holds s.start.value.keys s.table.keys s.count s.seats.items s.gone.items × AllGoing s.seats.items × (vec_len s.seats + vec_len s.gone ≤ vec_capacity s.gone) × EndsFor s.asked s.gone.items };
+    ghost invariant = { λ s. Holds s.start.value.keys s.table.keys s.count s.seats.items s.gone.items × AllGoing s.seats.items × (vec_len s.seats + vec_len s.gone ≤ vec_capacity s.gone) × EndsFor s.asked s.gone.items × Crowd s.count s.seats.items s.gone.items };
 }
 
 impl<L: Link> TableSessions<L> {
@@ -106,8 +107,9 @@ impl<L: Link> TableSessions<L> {
     pub fn admit<D: Door<Link = L>>(&mut self, door: &mut D) -> Met
         ensures start { self.new.start ≡ self.old.start }
         ensures meets { Meets result (D.hall door.old) (D.hall door.new) self.old.count self.new.count }
+        ensures enters { EntersFor result self.old.seats self.new.seats }
     {
-        let Some(welcome) = Welcome::of_next(self.alloc, self.seats.len(), self.count) else {
+        let Some(welcome) = Welcome::of_next(self.alloc, self.seats.as_slice(), self.count) else {
             return Met::Nobody;
         };
         let Ok(()) = self.seats.reserve(1) else {
@@ -225,6 +227,7 @@ impl<L: Link> TableSessions<L> {
         requires { self.seats ≡ [] }
         ensures promises { Promises self.start self.count result.items }
         ensures ends { EndsFor self.asked result.items }
+        ensures late { AllByRecursion (IsLate result.items) result.items }
     {
         let TableSessions {
             alloc: _,

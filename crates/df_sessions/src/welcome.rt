@@ -1,8 +1,9 @@
 //! How a link is met.
 
-ghost use Rattle.std.specs.Prelude.{◌+◌, ◌<◌, ◌^◌, IfSome};
+ghost use Rattle.std.specs.Prelude.{◌≡◌, ◌+◌, ◌<◌, ◌≤◌, ◌^◌, IfSome, length};
 ghost use Rattle.df_sessions.specs.Sessions.{Sits};
-ghost use Rattle.df_sessions.specs.Welcomes.{IsWelcome};
+ghost use Rattle.df_sessions.specs.AllSessions.{count_served};
+ghost use Rattle.df_sessions.specs.Welcomes.{IsWelcome, IsDue, turns_away};
 
 use crate::seat::Seat;
 use df_conn::turned_away_line;
@@ -34,20 +35,29 @@ impl Drop for Welcome {
 }
 
 impl Welcome {
-    /// How the next link is met where so many sessions are open, and so many came so far. `None`: there is no place for
-    /// it, or no memory.
-    pub(crate) fn of_next(alloc: Global, open: usize, count: u64) -> Option<Welcome>
+    /// How the next link is met, where these are open and so many came so far. `None`: there is no place for it, or no
+    /// memory.
+    pub(crate) fn of_next<L: Link>(
+        alloc: Global,
+        seats: &[Seat<L, Desk>],
+        count: u64,
+    ) -> Option<Welcome>
         ensures is { IfSome result (λ welcome. IsWelcome welcome count) }
+        ensures due { IfSome result (λ welcome. IsDue welcome (count_served seats.now)) }
         ensures room { IfSome result (λ welcome. count + 1 < 2 ^ 64) }
     {
         if count == u64::MAX {
             return None;
         }
-        if open < MAX_OPEN {
+        if seats.len() < MAX_OPEN {
             return Some(Welcome::In);
         }
-        // Each open session has a place of its own below the count.
-        if count < MAX_OPEN as u64 || open >= MAX_OPEN + MAX_TURNED_AWAY {
+        let served = count_served(seats);
+        if served < MAX_OPEN {
+            return Some(Welcome::In);
+        }
+        // Each session that is served has a place of its own below the count.
+        if count < MAX_OPEN as u64 || seats.len() - served >= MAX_TURNED_AWAY {
             return None;
         }
         match turned_away_line(alloc) {
@@ -59,11 +69,25 @@ impl Welcome {
     /// The session of the link that came.
     pub(crate) fn seat<L: Link>(self, alloc: Global, id: u64, link: L) -> Seat<L, Desk>
         requires { IsWelcome self id }
-        ensures { Sits result id (L.flow link) }
+        ensures { Sits result id (L.flow link) (turns_away self) }
     {
         match self {
             Welcome::In => Seat::new(alloc, id, link),
             Welcome::Away(line) => Seat::turned_away(alloc, id, link, line),
         }
     }
+}
+
+/// How many of the sessions are served.
+fn count_served<L: Link>(seats: &[Seat<L, Desk>]) -> usize
+    ensures is { result ≡ count_served seats.now }
+    ensures within { result ≤ length seats.now }
+{
+    let mut served = 0;
+    'seats: for seat in seats {
+        if !seat.is_away() {
+            served += 1;
+        }
+    }
+    served
 }

@@ -7,7 +7,7 @@ use Rattle.df_server.proofs.server.say_and_serve.Goals as goal
 pub returns-in-Whole : goal.returns-in-Whole
 returns-in-Whole g c = λ first stays.
     has_served _ (g.D.Poller.hall c.args.door.now) c.serve.result.asked c.serve.result.entry c.serve.result.count c.serve.result.sessions.items stays c.run_of.ensures.bound c.run_of.ensures.status c.run_of.ensures.sessions
-    c.in-Whole.ensures.0 c.serve.ensures.since c.serve.ensures.done (subst (λ K. Promises K c.serve.result.count c.serve.result.sessions.items) c.new.ensures c.serve.ensures.promises) c.serve.ensures.ends
+    c.in-Whole.ensures.0 c.serve.ensures.since c.serve.ensures.done (subst (λ K. Promises K c.serve.result.count c.serve.result.sessions.items) c.new.ensures c.serve.ensures.promises) c.serve.ensures.ends c.serve.ensures.late
 
 pub returns-in-Failed : goal.returns-in-Failed
 returns-in-Failed g c = λ first stays.

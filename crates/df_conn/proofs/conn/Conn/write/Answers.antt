@@ -1,4 +1,4 @@
-use Rattle.std.proofs.Common.{◌≤◌, inl, inr, length, take, drop, sym, subst}
+use Rattle.std.proofs.Common.{◌≤◌, inl, inr, length, take, drop, refl, sym, subst}
 use Rattle.df_model.specs.Values.{Bytes}
 use Rattle.df_model.specs.declared.session.Turn.TheVariants as turns
 use Rattle.df_model.specs.declared.session.Why.TheVariants as ends
@@ -6,6 +6,7 @@ use Rattle.df_outside.specs.Links.{PutOut}
 use Rattle.df_conn.specs.Turns.{Sight, see, Turned}
 use Rattle.df_conn.proofs.FlowLaws.{proven_write_fault}
 use Rattle.df_conn.proofs.LinkLaws.{put_some, put_waits, put_cut, put_none}
+use Rattle.df_conn.proofs.AwayLaws.{cut_served, same_served}
 use Rattle.df_conn.proofs.conn.Conn.write.Goals as goal
 
 pub returns-then-stopping-clause-turned : goal.returns-then-stopping-clause-turned
@@ -40,3 +41,15 @@ pub returns-in-NoMemory-clause-turned : goal.returns-in-NoMemory-clause-turned
 returns-in-NoMemory-clause-turned g c =
     let s : Sight = see c.args.self.now.id c.args.self.now.stage (g.C.Caller.calling c.args.self.now.caller) (g.L.Link.flow c.args.self.now.first.value) (g.L.Link.flow c.args.self.now.link) c.args.self.now.talk in
     put_none c.args.stopping s (g.L.Link.flow c.write.new.self) c.requires.going c.requires.writing c.in-NoMemory.ensures
+
+pub returns-then-stopping-clause-served : goal.returns-then-stopping-clause-served
+returns-then-stopping-clause-served g c = cut_served c.args.self.now.stage ends.Stopped c.cut_short-why.result c.cut_short-why.ensures refl
+
+pub returns-in-Failed-clause-served : goal.returns-in-Failed-clause-served
+returns-in-Failed-clause-served g c = cut_served c.args.self.now.stage ends.WriteFault c.cut_short-why-in-Failed.result c.cut_short-why-in-Failed.ensures refl
+
+pub returns-in-Took-clause-served : goal.returns-in-Took-clause-served
+returns-in-Took-clause-served g c = same_served c.args.self.now.stage c.requires.writing
+
+pub returns-else-stopping-clause-served : goal.returns-else-stopping-clause-served
+returns-else-stopping-clause-served g c = same_served c.args.self.now.stage c.requires.writing

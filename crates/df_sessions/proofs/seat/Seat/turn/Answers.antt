@@ -27,4 +27,5 @@ returns-clause-sat g c =
       stage = turned_stage turn stop old new t;
       halts = turned_halts turn stop old new after t;
       nearer = turned_nearer turn stop old new before after refl below t;
+      served = c.turn-turn.ensures.served;
     }

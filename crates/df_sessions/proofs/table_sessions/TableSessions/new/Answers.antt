@@ -1,6 +1,7 @@
 use Rattle.std.proofs.Common.{[], false, sym, ap, subst, arith}
-use Rattle.df_sessions.specs.AllSessions.{Holds, AllGoing, EndsFor}
+use Rattle.df_sessions.specs.AllSessions.{Holds, AllGoing, EndsFor, Crowd}
 use Rattle.df_sessions.proofs.SessionLaws.{starts, none_ended}
+use Rattle.df_sessions.proofs.CrowdLaws.{crowd_starts}
 use Rattle.df_sessions.proofs.table_sessions.TableSessions.new.Goals as goal
 
 pub invariant_of-result : goal.invariant_of-result
@@ -11,4 +12,5 @@ invariant_of-result g c =
       subst AllGoing (sym c.new.ensures.items) tt,
       omega (arith, c.new.ensures.len, c.new-2.ensures.len),
       subst (EndsFor false) (sym c.new-2.ensures.items) none_ended,
+      subst (λ s. Crowd 0 s c.new-2.result.items) (sym c.new.ensures.items) (subst (Crowd 0 []) (sym c.new-2.ensures.items) crowd_starts),
     )
