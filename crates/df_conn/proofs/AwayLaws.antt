@@ -10,26 +10,26 @@ pub closed_served : (stage : Stage) (why : Why) → stage ≡ stages.Closing why
 closed_served stage why is e = ap is_away is ∙ e
 
 off_served : (closing why : Why) → is_too_many why ≡ false → is_too_many (cut_off closing why) ≡ true → is_too_many closing ≡ true
-off_served ends.TooMany why no e = refl
-off_served ends.InputEnd why no e = absurd (cc (sym no ∙ e))
-off_served ends.Quit why no e = absurd (cc (sym no ∙ e))
-off_served ends.Asked why no e = absurd (cc (sym no ∙ e))
-off_served ends.Stopped why no e = absurd (cc (sym no ∙ e))
-off_served (ends.Protocol kind at) why no e = absurd (cc (sym no ∙ e))
-off_served ends.ReadFault why no e = absurd (cc (sym no ∙ e))
-off_served ends.WriteFault why no e = absurd (cc (sym no ∙ e))
-off_served ends.Spent why no e = absurd (cc (sym no ∙ e))
-off_served ends.NoMemory why no e = absurd (cc (sym no ∙ e))
+off_served ends.TooMany why plain e = refl
+off_served ends.InputEnd why plain e = absurd (cc (sym plain ∙ e))
+off_served ends.Quit why plain e = absurd (cc (sym plain ∙ e))
+off_served ends.Asked why plain e = absurd (cc (sym plain ∙ e))
+off_served ends.Stopped why plain e = absurd (cc (sym plain ∙ e))
+off_served (ends.Protocol kind at) why plain e = absurd (cc (sym plain ∙ e))
+off_served ends.ReadFault why plain e = absurd (cc (sym plain ∙ e))
+off_served ends.WriteFault why plain e = absurd (cc (sym plain ∙ e))
+off_served ends.Spent why plain e = absurd (cc (sym plain ∙ e))
+off_served ends.NoMemory why plain e = absurd (cc (sym plain ∙ e))
 
 at_served : (stage : Stage) (why : Why) → is_too_many why ≡ false → is_too_many (cut_at stage why) ≡ true → is_away stage ≡ true
-at_served stages.Open why no e = absurd (cc (sym no ∙ e))
-at_served stages.Calling why no e = absurd (cc (sym no ∙ e))
-at_served (stages.Closing closing) why no e = off_served closing why no e
-at_served (stages.Over over) why no e = absurd (cc (sym no ∙ e))
+at_served stages.Open why plain e = absurd (cc (sym plain ∙ e))
+at_served stages.Calling why plain e = absurd (cc (sym plain ∙ e))
+at_served (stages.Closing closing) why plain e = off_served closing why plain e
+at_served (stages.Over over) why plain e = absurd (cc (sym plain ∙ e))
 
 -- a session that can't go on writing
 pub cut_served : (stage : Stage) (why cut : Why) → cut ≡ cut_at stage why → is_too_many why ≡ false → StaysServed stage (stages.Over cut)
-cut_served stage why cut is no e = at_served stage why no (ap is_too_many (sym is) ∙ e)
+cut_served stage why cut is plain e = at_served stage why plain (ap is_too_many (sym is) ∙ e)
 
 -- nothing is closed or ended
 pub same_served : (stage : Stage) → IsWriting stage → StaysServed stage stage
