@@ -127,7 +127,7 @@ crowd_leaves count seats gone at s s' d p h lt is stays id =
     let without : (f : Sitting → ℕ) → sum_by f left + f s ≡ sum_by f seats = λ f. omega (arith, sum_by-swap_remove f (set seats at s') at d within, ap f there, sum_by-set f seats at s' s lt, ap f is) in
     let own : OpenLate seats gone s = subst (OpenLate seats gone) (sym is) (all_get (OpenLate seats gone) seats at s h.open_late lt) in
     let more : (n : ℕ) → served_before n seats gone ≤ served_before n left (gone ++ p ∷ []) = λ n.
-        omega (arith, without (open_before n), sum_by_push (gone_before n) gone p, leaves_case (is_away s.stage) (is_too_many p.why) (at_below n s.id) (at_below n p.id) stays (ap (at_below n) id)) in
+    omega (arith, without (open_before n), sum_by_push (gone_before n) gone p, leaves_case (is_away s.stage) (is_too_many p.why) (at_below n s.id) (at_below n p.id) stays (ap (at_below n) id)) in
     record {
       most = omega (arith, h.most, without counts);
       below = all_without_set (λ (x : Sitting). x.id < count) seats at s' d lt h.below;
