@@ -16,8 +16,11 @@ use Rattle.df_sessions.specs.declared.welcome.Welcome.{Welcome}
 use Rattle.df_sessions.specs.declared.welcome.Welcome.TheVariants as welcomes
 use Rattle.df_sessions.proofs.ListLaws.{all_set, all_get, all_push, all_map, all_without_set}
 
+abbrev bit : Bool → ℕ
+bit away = cond away 0 1
+
 abbrev counts : Sitting → ℕ
-counts s = cond (is_away s.stage) 0 1
+counts s = bit (is_away s.stage)
 
 -- turned away only behind as many as may be served
 abbrev OpenLate : List Sitting → List Parted → Sitting → Type 0
@@ -44,7 +47,7 @@ before_case false k e = omega (arith, e)
 all_before : (n : ℕ) (seats : List Sitting) → AllByRecursion (λ (s : Sitting). s.id < n) seats → count_served seats ≤ sum_by (open_before n) seats
 all_before n [] a = omega arith
 all_before n (s ∷ seats) a =
-    omega (arith, sum_by-cons counts s seats, sum_by-cons (open_before n) s seats, before_case (is_away s.stage) (at_below n s.id) (ap (λ b. cond b 1 0) (lt-ltb s.id n a.0)), all_before n seats a.1)
+    omega (arith, sum_by-cons counts s seats, sum_by-cons (open_before n) s seats, before_case (is_away s.stage) (at_below n s.id) (ap {B = ℕ} (λ b. cond b 1 0) (lt-ltb s.id n a.0)), all_before n seats a.1)
 
 -- ---- what was late stays so where no fewer come before
 
@@ -69,8 +72,8 @@ may_enter welcomes.In seats s most is due = inl (is, due)
 may_enter (welcomes.Away line) seats s most is due = inr (is, omega (arith, most, due))
 
 enters_most : (seats : List Sitting) (s : Sitting) → count_served seats ≤ MAX_OPEN → MayEnter seats s → count_served (seats ++ s ∷ []) ≤ MAX_OPEN
-enters_most seats s most (inl served) = omega (arith, sum_by_push counts seats s, ap (λ b. cond b 0 1) served.0, served.1)
-enters_most seats s most (inr away) = omega (arith, sum_by_push counts seats s, ap (λ b. cond b 0 1) away.0, most)
+enters_most seats s most (inl served) = omega (arith, sum_by_push counts seats s, ap bit served.0, served.1)
+enters_most seats s most (inr away) = omega (arith, sum_by_push counts seats s, ap bit away.0, most)
 
 enters_late : (count : ℕ) (seats : List Sitting) (gone : List Parted) (s : Sitting) → AllByRecursion (λ (x : Sitting). x.id < count) seats → s.id ≡ count → MayEnter seats s → OpenLate (seats ++ s ∷ []) gone s
 enters_late count seats gone s below is (inl served) e = absurd (cc (sym served.0 ∙ e))
@@ -99,13 +102,13 @@ pub crowd_turns : (count : ℕ) (seats : List Sitting) (gone : List Parted) (at 
     Crowd count (set seats at s') gone
 crowd_turns count seats gone at s s' h lt is id going stays =
     let same = going_same s.stage s'.stage going stays in
-    let before : (n : ℕ) → open_before n s' ≡ open_before n s = λ n. ap (λ b. cond b 0 (at_below n s'.id)) same ∙ ap (λ i. cond (is_away s.stage) 0 (at_below n i)) id in
+    let before : (n : ℕ) → open_before n s' ≡ open_before n s = λ n. ap {B = ℕ} (λ b. cond b 0 (at_below n s'.id)) same ∙ ap {B = ℕ} (λ i. cond (is_away s.stage) 0 (at_below n i)) id in
     let equal : (n : ℕ) → served_before n (set seats at s') gone ≡ served_before n seats gone = λ n. omega (arith, sum_by-set (open_before n) seats at s' s lt, before n, ap (open_before n) is) in
     let more : (n : ℕ) → served_before n seats gone ≤ served_before n (set seats at s') gone = λ n. omega (arith, equal n) in
     let own : OpenLate seats gone s = subst (OpenLate seats gone) (sym is) (all_get (OpenLate seats gone) seats at s h.open_late lt) in
     let own_below : s.id < count = subst (λ (x : Sitting). x.id < count) (sym is) (all_get (λ (x : Sitting). x.id < count) seats at s h.below lt) in
     record {
-      most = omega (arith, h.most, sum_by-set counts seats at s' s lt, ap (λ b. cond b 0 1) same, ap counts is);
+      most = omega (arith, h.most, sum_by-set counts seats at s' s lt, ap bit same, ap counts is);
       below = all_set (λ (x : Sitting). x.id < count) seats at s' h.below (omega (arith, own_below, id));
       open_late = all_set (OpenLate (set seats at s') gone) seats at s' (late_open seats (set seats at s') gone gone more seats h.open_late)
           (λ e. omega (arith, own (sym same ∙ e), more s.id, ap (λ n. served_before n (set seats at s') gone) id));
@@ -138,4 +141,4 @@ crowd_leaves count seats gone at s s' d p h lt is stays id =
 
 -- all have ended
 pub crowd_ends : (count : ℕ) (gone : List Parted) → Crowd count [] gone → AllByRecursion (IsLate gone) gone
-crowd_ends count gone h = all_map (GoneLate [] gone) (IsLate gone) gone (λ p f e. f (ap is_too_many e)) h.gone_late
+crowd_ends count gone h = all_map (GoneLate [] gone) (IsLate gone) gone (λ p f e. omega (arith, f (ap is_too_many e))) h.gone_late
