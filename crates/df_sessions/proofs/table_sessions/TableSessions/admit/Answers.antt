@@ -23,7 +23,7 @@ invariant_of-self-in-Link g c =
       subst (EndsFor r.asked) (sym c.reserve-2.ensures.items) c.self.invariant.3,
       subst (λ l. Crowd (r.count + 1) l c.reserve-2.new.self.items) (sym seats)
           (subst (Crowd (r.count + 1) (r.seats.items ++ s ∷ [])) (sym c.reserve-2.ensures.items)
-          (crowd_enters r.count r.seats.items r.gone.items s c.self.invariant.4 c.seat.ensures.id_is (may_enter c.in-Some.welcome r.seats.items s c.self.invariant.4.most c.seat.ensures.away_is (subst (λ l. IsDue c.in-Some.welcome (count_served l)) c.as_slice.ensures c.in-Some.ensures.due)))),
+          (crowd_enters r.count r.seats.items r.gone.items s c.self.invariant.4 c.seat.ensures.id_is (may_enter c.in-Some.welcome r.seats.items s c.self.invariant.4.most c.seat.ensures.away_is (subst (λ l. IsDue c.in-Some.welcome (count_served l)) c.as_slice.ensures.value c.in-Some.ensures.due)))),
     )
 
 pub returns-in-Link-clause-enters : goal.returns-in-Link-clause-enters
@@ -32,7 +32,7 @@ returns-in-Link-clause-enters g c =
     let s = c.seat.result in
     let seats = c.push_reserved.ensures.items ∙ ap (λ l. l ++ s ∷ []) c.reserve.ensures.items in
     subst (λ (v : AllSessions). Enters v.seats c.push_reserved.new.self.items) c.self.view_is
-    (s, seats, may_enter c.in-Some.welcome r.seats.items s c.self.invariant.4.most c.seat.ensures.away_is (subst (λ l. IsDue c.in-Some.welcome (count_served l)) c.as_slice.ensures c.in-Some.ensures.due))
+    (s, seats, may_enter c.in-Some.welcome r.seats.items s c.self.invariant.4.most c.seat.ensures.away_is (subst (λ l. IsDue c.in-Some.welcome (count_served l)) c.as_slice.ensures.value c.in-Some.ensures.due))
 
 pub returns-in-Closed-clause-meets : goal.returns-in-Closed-clause-meets
 returns-in-Closed-clause-meets g c = (c.in-Closed.ensures.0, c.in-Closed.ensures.2, ap (λ (v : AllSessions). v.count) c.self.view_is, shut_told _ _ c.in-Closed.ensures.1)
