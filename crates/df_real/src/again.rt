@@ -1,11 +1,14 @@
 //! Calls that are made again where a signal cut them short.
 
+ghost use Rattle.std.specs.Prelude.{◌≡◌, length};
 ghost use Rattle.std.specs.Io.{ReadsAtMost, WritesAtMost};
 ghost use Rattle.std.specs.Io.KnownBytes.{ReadConsumes, WriteAppends};
 
 use mio::net::{TcpListener, TcpStream};
+use std::fs::File;
 use std::io;
 use std::io::{ErrorKind, Read, Write};
+use std::os::unix::fs::FileExt;
 
 /// Reads once, and again where a signal cut the read short before a byte came.
 pub(crate) fn read_again<R: Read>(reader: &mut R, buf: &mut [u8]) -> io::Result<usize>
@@ -14,6 +17,20 @@ pub(crate) fn read_again<R: Read>(reader: &mut R, buf: &mut [u8]) -> io::Result<
 {
     'tries: for _ in 0..u64::MAX {
         match reader.read(buf) {
+            Err(fault) if fault.kind() == ErrorKind::Interrupted => {}
+            answer => return answer,
+        }
+    }
+    Err(io::Error::from(ErrorKind::Interrupted))
+}
+
+/// Reads at a place of a file, and again where a signal cut the read short before a byte came.
+pub(crate) fn read_again_at(file: &File, at: u64, buf: &mut [u8]) -> io::Result<usize>
+    ensures bound { ReadsAtMost result buf.new }
+    ensures len { length buf.new ≡ length buf.old }
+{
+    'tries: for _ in 0..u64::MAX {
+        match file.read_at(buf, at) {
             Err(fault) if fault.kind() == ErrorKind::Interrupted => {}
             answer => return answer,
         }

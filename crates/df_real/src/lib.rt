@@ -7,11 +7,13 @@
 
 mod again;
 mod door;
+mod file_disk;
 mod link;
 mod places;
 mod streams;
 mod word;
 
 pub use door::MioDoor;
+pub use file_disk::FileDisk;
 pub use link::MioLink;
 pub use streams::{StdSink, StdSource};
