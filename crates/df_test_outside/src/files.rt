@@ -37,7 +37,12 @@ fn a_file_is_replaced_as_a_whole(rt: HostRuntime) -> Result<(), Fail> {
     assert_eq!(rt; read_four(&mut disk, 5), (Had::End, *b"----"));
     // A piece that is longer than what is gathered to one write.
     let long = vec![in rt.alloc(); b'x'; 70_000]?;
-    assert!(rt; put_beside(&mut disk, &[b"<".as_slice(), long.as_slice(), b">".as_slice()]));
+    assert!(rt;
+        put_beside(
+            &mut disk,
+            &[b"<".as_slice(), long.as_slice(), b">".as_slice()]
+        )
+    );
     assert_eq!(rt; read_four(&mut disk, 1), (Had::Took(4), *b"bcde"));
     assert_eq!(rt; disk.replace(), Done::Ok);
     assert_eq!(rt; read_four(&mut disk, 69_998), (Had::Took(4), *b"xxx>"));
