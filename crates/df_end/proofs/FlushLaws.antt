@@ -46,7 +46,7 @@ use Rattle.df_end.proofs.ShardLaws.{shards_take_tickets, shards_run_at_once, sha
 use Rattle.df_end.proofs.RowLaws.{lobby_takes_in}
 use Rattle.df_end.proofs.RoundLaws.{calls_begin, calls_end, rounds_are_seen, sessions_go_on}
 
-has-prefix : (a b : List Entry) (e : Entry) → IsPrefix a b → Has a e → Has b e
+pub has-prefix : (a b : List Entry) (e : Entry) → IsPrefix a b → Has a e → Has b e
 has-prefix [] b e p h = absurd h
 has-prefix (x ∷ a) [] e p h = absurd p
 has-prefix (x ∷ a) (y ∷ b) e p (inl i) = inl (sym p.0 ∙ i)

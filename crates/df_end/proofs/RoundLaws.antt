@@ -201,7 +201,7 @@ greatest-covers (x ∷ log) e h = go (is_note x.act) (greatest-covers log e) h
     go false f (inl i) = omega (arith, ap (λ (y : Entry). y.number) i)
     go false f (inr h) = omega (arith, f h)
 
-floor-covers : (seen : List (List Entry)) (s : ℕ) → greatest (at_log seen s) ≤ floor_of seen
+pub floor-covers : (seen : List (List Entry)) (s : ℕ) → greatest (at_log seen s) ≤ floor_of seen
 floor-covers [] s = omega arith
 floor-covers (x ∷ seen) zero = omega arith
 floor-covers (x ∷ seen) (suc s) = omega (arith, floor-covers seen s)
@@ -236,19 +236,19 @@ ran-seen shards some seen d (Some reply) came h names = go (order.some_entry (ca
           | inr ge ↦ (calls_laws shards some).within d.call names.0 ge
         ]))
 
-chain-append : {X : Type 0} (R : X → X → Type 0) (a b : List X) → Chain R a → Chain R b → ((x y : X) → Has a x → Has b y → R x y) → Chain R (a ++ b)
+pub chain-append : {X : Type 0} (R : X → X → Type 0) (a b : List X) → Chain R a → Chain R b → ((x y : X) → Has a x → Has b y → R x y) → Chain R (a ++ b)
 chain-append R [] b c d f = d
 chain-append R (x ∷ a) b c d f = (
   λ y h. elim (has_cases a b y h) [ inl k ↦ c.0 y k | inr k ↦ f x y (inl refl) k ],
   chain-append R a b c.1 d (λ p q hp hq. f p q (inr hp) hq),
 )
 
-each-where : {X : Type 0} (P Q : X → Type 0) (l : List X) → ((x : X) → Has l x → P x → Q x) → Each P l → Each Q l
+pub each-where : {X : Type 0} (P Q : X → Type 0) (l : List X) → ((x : X) → Has l x → P x → Q x) → Each P l → Each Q l
 each-where P Q [] f e = tt
 each-where P Q (x ∷ l) f e = (f x (inl refl) e.0, each-where P Q l (λ y h p. f y (inr h) p) e.1)
 
 -- a list with an element k times
-none-hit : (n : ℕ) (l : List ℕ) → Each (λ (m : ℕ). m ≢ n) l → count n l ≡ 0
+pub none-hit : (n : ℕ) (l : List ℕ) → Each (λ (m : ℕ). m ≢ n) l → count n l ≡ 0
 none-hit n [] e = refl
 none-hit n (m ∷ l) e = omega (arith, hit-else n m e.0, none-hit n l e.1)
 

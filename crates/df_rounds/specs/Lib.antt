@@ -1,0 +1,5 @@
+pub mod Standing
+pub mod Replies
+pub mod Progress
+pub mod Underway
+pub mod Between
