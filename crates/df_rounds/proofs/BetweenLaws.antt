@@ -1,9 +1,8 @@
 -- A call from its draw to what it leaves.
-use Rattle.std.proofs.Common.{◌≡◌, ◌≢◌, ℕ, zero, suc, ◌+◌, ◌<◌, ◌≤◌, cond, not, is_some, List, [], ◌∷◌, ◌++◌, inl, inr, refl, sym, ap, ◌∙◌, subst, arith, append-nil, append_assoc}
+use Rattle.std.proofs.Common.{◌≡◌, ◌≢◌, ℕ, suc, ◌+◌, ◌<◌, ◌≤◌, cond, not, is_some, List, [], ◌∷◌, ◌++◌, inl, inr, refl, sym, ap, ◌∙◌, subst, arith, append-nil, append_assoc}
 use Rattle.std.specs.Prelude.{Option, Some, None}
 use Rattle.std.proofs.lemmas.Bool.{false≢true}
-use Rattle.df_order.specs.Lists.{Has, Chain}
-use Rattle.df_order.proofs.Lists.{has_cases}
+use Rattle.df_order.specs.Lists.{Has}
 use Rattle.df_log.specs.Entries.{is_note}
 use Rattle.df_log.specs.declared.entry.Entry.{Entry}
 use Rattle.df_book.specs.Weights.{Each, count, hit, head_or}
@@ -13,7 +12,7 @@ use Rattle.df_book.proofs.Running.{last-snoc}
 use Rattle.df_book.specs.Passes.{Caller, draw_by, after_draw}
 use Rattle.df_book.specs.declared.draw.Draw.{Draw}
 use Rattle.df_book.proofs.Logs.{prefix-total, within-refl, within-trans}
-use Rattle.df_book.proofs.Sums.{below-mono, hit-same, hit-else, total-append, Each-append, Each-map}
+use Rattle.df_book.proofs.Sums.{below-mono, hit-same, total-append, Each-append, Each-map}
 use Rattle.df_end.specs.Calls.{Row, draws_in, CallLeft, Follows}
 use Rattle.df_end.specs.Rounds.{Hopped, RoundOf, Round, asked, acts_in}
 use Rattle.df_end.proofs.EntryLaws.{each-has, entries-same, calls_stay}

@@ -21,7 +21,7 @@ use Rattle.df_core.specs.Due.{due}
 use Rattle.df_core.specs.Calls.{calls}
 use Rattle.df_core.proofs.DueLaws.{due_within, next_rises}
 use Rattle.df_book.specs.Weights.{below, count, hit}
-use Rattle.df_book.specs.Logs.{at_log, IsPrefix, Within, uses}
+use Rattle.df_book.specs.Logs.{at_log, Within, uses}
 use Rattle.df_book.specs.Draws.{last_number}
 use Rattle.df_book.proofs.Logs.{within-refl, within-trans}
 use Rattle.df_book.proofs.Sums.{hit-same, total-append, Each-append}
