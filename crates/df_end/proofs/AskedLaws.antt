@@ -39,7 +39,7 @@ near-prefixes (x ∷ xs) (y ∷ ys) ms ns e =
       | inr m ↦ inr (m.0, λ j. same j ∷ m.1 j)
     ]
 
-steps-append : (xs ys : List Entry) → steps_of (xs ++ ys) ≡ steps_of xs ++ steps_of ys
+pub steps-append : (xs ys : List Entry) → steps_of (xs ++ ys) ≡ steps_of xs ++ steps_of ys
 steps-append [] ys = refl
 steps-append (x ∷ xs) ys = ap (λ l. step_of x ∷ l) (steps-append xs ys)
 

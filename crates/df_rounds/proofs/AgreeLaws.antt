@@ -18,38 +18,38 @@ use Rattle.df_rounds.specs.Standing.{Standing, Fresh, Once, Twice, Thrice, round
 use Rattle.df_rounds.proofs.ToldLaws.{some-same, on-in, keyless, two-long, reads-wanted, reads-values}
 use Rattle.df_rounds.proofs.AskedLaws.{first-shape, once-shape, once-values, both-first, second-none, both-values, both-shape, both-wanted, second-asked, staged-shape}
 
--- ---- what is due, by its hop
+-- ---- what is due, by its hop, with the tests that let it be
 
-data Is (keys : List Bytes) (changes : Changes) (read wanted : Bool) (steps : List Step) (act : Act) : ℕ → Type 0 where
-  reads : not (is_nil keys) ≡ true → is_nil steps ≡ true → Read keys ≡ act → Is keys changes read wanted steps act 0
-  stages : read ≡ true → not (is_nil changes) ≡ true → length steps ≡ 1 → Stage changes ≡ act → Is keys changes read wanted steps act 1
-  applies : read ≡ true → wanted ≡ false → not (is_nil changes) ≡ true → length steps ≡ 2 → Apply ≡ act → Is keys changes read wanted steps act 2
-  unstages : read ≡ true → wanted ≡ true → not (is_nil changes) ≡ true → length steps ≡ 2 → Unstage ≡ act → Is keys changes read wanted steps act 3
+data DueAs (keys : List Bytes) (changes : Changes) (read wanted : Bool) (steps : List Step) (act : Act) : ℕ → Type 0 where
+  reads : not (is_nil keys) ≡ true → is_nil steps ≡ true → Read keys ≡ act → DueAs keys changes read wanted steps act 0
+  stages : read ≡ true → not (is_nil changes) ≡ true → length steps ≡ 1 → Stage changes ≡ act → DueAs keys changes read wanted steps act 1
+  applies : read ≡ true → wanted ≡ false → not (is_nil changes) ≡ true → length steps ≡ 2 → Apply ≡ act → DueAs keys changes read wanted steps act 2
+  unstages : read ≡ true → wanted ≡ true → not (is_nil changes) ≡ true → length steps ≡ 2 → Unstage ≡ act → DueAs keys changes read wanted steps act 3
 
-spread-is : (keys : List Bytes) (changes : Changes) (read staged wanted : Bool) (steps : List Step) (act : Act) (j : ℕ) → j < 4 →
-    spread_due keys changes read staged wanted steps j ≡ Some act → Is keys changes read wanted steps act j
-spread-is keys changes read staged wanted steps act zero lt h =
+due-as : (keys : List Bytes) (changes : Changes) (read staged wanted : Bool) (steps : List Step) (act : Act) (j : ℕ) → j < 4 →
+    spread_due keys changes read staged wanted steps j ≡ Some act → DueAs keys changes read wanted steps act j
+due-as keys changes read staged wanted steps act zero lt h =
     let c = cond_some (not (is_nil keys) && is_nil steps) (Read keys) act h in
     let p = and_parts (not (is_nil keys)) (is_nil steps) c.0 in
-    Is.reads p.0 p.1 c.1
-spread-is keys changes read staged wanted steps act (suc zero) lt h =
+    DueAs.reads p.0 p.1 c.1
+due-as keys changes read staged wanted steps act (suc zero) lt h =
     let c = cond_some (read && (not (is_nil changes) && (length steps == 1))) (Stage changes) act h in
     let p = and_parts read _ c.0 in
     let q = and_parts (not (is_nil changes)) (length steps == 1) p.1 in
-    Is.stages p.0 q.0 (eqb-true (length steps) 1 q.1) c.1
-spread-is keys changes read staged wanted steps act (suc (suc zero)) lt h =
+    DueAs.stages p.0 q.0 (eqb-true (length steps) 1 q.1) c.1
+due-as keys changes read staged wanted steps act (suc (suc zero)) lt h =
     let c = cond_some (read && (staged && (not wanted && (not (is_nil changes) && (length steps == 2))))) Apply act h in
     let p = and_parts read _ c.0 in
     let r = and_parts (not wanted) _ (and_parts staged _ p.1).1 in
     let q = and_parts (not (is_nil changes)) (length steps == 2) r.1 in
-    Is.applies p.0 (not-true wanted r.0) q.0 (eqb-true (length steps) 2 q.1) c.1
-spread-is keys changes read staged wanted steps act (suc (suc (suc zero))) lt h =
+    DueAs.applies p.0 (not-true wanted r.0) q.0 (eqb-true (length steps) 2 q.1) c.1
+due-as keys changes read staged wanted steps act (suc (suc (suc zero))) lt h =
     let c = cond_some (read && (staged && (wanted && (not (is_nil changes) && (length steps == 2))))) Unstage act h in
     let p = and_parts read _ c.0 in
     let r = and_parts wanted _ (and_parts staged _ p.1).1 in
     let q = and_parts (not (is_nil changes)) (length steps == 2) r.1 in
-    Is.unstages p.0 r.0 q.0 (eqb-true (length steps) 2 q.1) c.1
-spread-is keys changes read staged wanted steps act (suc (suc (suc (suc j)))) lt h = absurd (omega (arith, lt))
+    DueAs.unstages p.0 r.0 q.0 (eqb-true (length steps) 2 q.1) c.1
+due-as keys changes read staged wanted steps act (suc (suc (suc (suc j)))) lt h = absurd (omega (arith, lt))
 
 stage-of : (changes : Changes) → not (is_nil changes) ≡ true → stage_of changes ≡ Some (Stage changes)
 stage-of [] e = absurd (false≢true e)
@@ -77,28 +77,28 @@ module _ (shards i : ℕ) (command : Command) (s : ℕ) (act : Act) (lt : s < sh
   abbrev keys : List Bytes
   keys = keys_on shards s command
 
-  abbrev Now : Course → Standing → ℕ → Type 0
-  Now course standing j = (j ≡ hop_of shards command course standing) × (asks shards command course standing s ≡ Some act)
+  abbrev IsAskedNext : Course → Standing → ℕ → Type 0
+  IsAskedNext course standing j = (j ≡ hop_of shards command course standing) × (asks shards command course standing s ≡ Some act)
 
   -- what is due of it, by what was told
   abbrev DueOf : (ℕ → List Step) → Keyspace → ℕ → Type 0
   DueOf own K j =
-      Is keys (changes_on shards s command K) (all_read shards command own && not (some (λ t. first_wanted (own t)) shards))
+      DueAs keys (changes_on shards s command K) (all_read shards command own && not (some (λ t. first_wanted (own t)) shards))
       (some (λ t. second_wanted (own t)) shards) (own s) act j
 
   due-of : (own : ℕ → List Step) (K : Keyspace) (j : ℕ) → j < 4 → values_read shards command own ≡ K →
       due_by shards command Spread own s j ≡ Some act → DueOf own K j
   due-of own K j few e h =
       subst (λ L. DueOf own L j) e
-      (spread-is keys (changes_on shards s command (values_read shards command own))
+      (due-as keys (changes_on shards s command (values_read shards command own))
       (all_read shards command own && not (some (λ t. first_wanted (own t)) shards)) (all_staged shards command own)
       (some (λ t. second_wanted (own t)) shards) (own s) act j few h)
 
-  fresh-now : (K : Keyspace) (j : ℕ) → DueOf (λ t. []) K j → Now Spread Fresh j
-  fresh-now K _ (Is.reads k n a) = (refl, on-in shards (first_asked shards command Spread) s lt ∙ read-of keys k ∙ ap Some a)
-  fresh-now K _ (Is.stages r c l a) = absurd (omega (arith, l))
-  fresh-now K _ (Is.applies r w c l a) = absurd (omega (arith, l))
-  fresh-now K _ (Is.unstages r w c l a) = absurd (omega (arith, l))
+  fresh-now : (K : Keyspace) (j : ℕ) → DueOf (λ t. []) K j → IsAskedNext Spread Fresh j
+  fresh-now K _ (DueAs.reads k n a) = (refl, on-in shards (first_asked shards command Spread) s lt ∙ read-of keys k ∙ ap Some a)
+  fresh-now K _ (DueAs.stages r c l a) = absurd (omega (arith, l))
+  fresh-now K _ (DueAs.applies r w c l a) = absurd (omega (arith, l))
+  fresh-now K _ (DueAs.unstages r w c l a) = absurd (omega (arith, l))
 
   module _ (a : ℕ → Told) where
     abbrev K : Keyspace
@@ -125,13 +125,13 @@ module _ (shards i : ℕ) (command : Command) (s : ℕ) (act : Act) (lt : s < sh
     short : length (first s) ≤ 1
     short = one-short (4 * i + 0) (asks shards command Spread Fresh s) (a s)
 
-    once-now : (j : ℕ) → DueOf first K j → Now Spread (Once a) j
-    once-now _ (Is.reads k n e) = absurd (not-begun (4 * i + 0) keys (a s) [] (first s) (once-shape shards i command a s lt) k n)
-    once-now _ (Is.stages r c l e) =
+    once-now : (j : ℕ) → DueOf first K j → IsAskedNext Spread (Once a) j
+    once-now _ (DueAs.reads k n e) = absurd (not-begun (4 * i + 0) keys (a s) [] (first s) (once-shape shards i command a s lt) k n)
+    once-now _ (DueAs.stages r c l e) =
         let had = had-by first (λ t. []) (once-shape shards i command a) (λ t q. refl) r in
         (refl, on-in shards (second_asked shards command Spread a) s lt ∙ second-asked shards i command a (λ t. a t) had s ∙ stage-of changes c ∙ ap Some e)
-    once-now _ (Is.applies r w c l e) = absurd (omega (arith, l, short))
-    once-now _ (Is.unstages r w c l e) = absurd (omega (arith, l, short))
+    once-now _ (DueAs.applies r w c l e) = absurd (omega (arith, l, short))
+    once-now _ (DueAs.unstages r w c l e) = absurd (omega (arith, l, short))
 
     module _ (b : ℕ → Told) where
       abbrev second : ℕ → List Step
@@ -156,14 +156,14 @@ module _ (shards i : ℕ) (command : Command) (s : ℕ) (act : Act) (lt : s < sh
       had-both : (all_read shards command both && not (some (λ t. first_wanted (both t)) shards)) ≡ true → wanted ≡ false
       had-both r = had-by both second (both-first shards i command a b) (second-none shards i command a b) r
 
-      twice-now : (j : ℕ) → DueOf both K j → Now Spread (Twice a b) j
-      twice-now _ (Is.reads k n e) = absurd (not-begun (4 * i + 0) keys (a s) (second s) (both s) (both-first shards i command a b s lt) k n)
-      twice-now _ (Is.stages r c l e) = absurd (omega (arith, l, both-long (had-both r) c))
-      twice-now _ (Is.applies r w c l e) =
+      twice-now : (j : ℕ) → DueOf both K j → IsAskedNext Spread (Twice a b) j
+      twice-now _ (DueAs.reads k n e) = absurd (not-begun (4 * i + 0) keys (a s) (second s) (both s) (both-first shards i command a b s lt) k n)
+      twice-now _ (DueAs.stages r c l e) = absurd (omega (arith, l, both-long (had-both r) c))
+      twice-now _ (DueAs.applies r w c l e) =
           let had = had-both r in
           let is = sym (both-wanted shards i command a b had) ∙ w in
           (sym (ap (λ q. cond q 3 2) is), third-asked had c ∙ ap (λ q. Some (cond q Unstage Apply)) is ∙ ap Some e)
-      twice-now _ (Is.unstages r w c l e) =
+      twice-now _ (DueAs.unstages r w c l e) =
           let had = had-both r in
           let is = sym (both-wanted shards i command a b had) ∙ w in
           (sym (ap (λ q. cond q 3 2) is), third-asked had c ∙ ap (λ q. Some (cond q Unstage Apply)) is ∙ ap Some e)
@@ -208,10 +208,10 @@ module _ (shards i : ℕ) (command : Command) (s : ℕ) (act : Act) (lt : s < sh
         all-values = reads-values shards command (4 * i + 0) a all (λ t. second t ++ third t) all-first third-none
 
         thrice-never : (j : ℕ) → DueOf all K j → ⊥
-        thrice-never _ (Is.reads k n e) = not-begun (4 * i + 0) keys (a s) (second s ++ third s) (all s) (all-first s lt) k n
-        thrice-never _ (Is.stages r d l e) = omega (arith, l, all-long (had-all r) d)
-        thrice-never _ (Is.applies r w d l e) = omega (arith, l, all-long (had-all r) d)
-        thrice-never _ (Is.unstages r w d l e) = omega (arith, l, all-long (had-all r) d)
+        thrice-never _ (DueAs.reads k n e) = not-begun (4 * i + 0) keys (a s) (second s ++ third s) (all s) (all-first s lt) k n
+        thrice-never _ (DueAs.stages r d l e) = omega (arith, l, all-long (had-all r) d)
+        thrice-never _ (DueAs.applies r w d l e) = omega (arith, l, all-long (had-all r) d)
+        thrice-never _ (DueAs.unstages r w d l e) = omega (arith, l, all-long (had-all r) d)
 
   -- ---- FLUSHALL on several shards
 
@@ -254,7 +254,7 @@ module _ (shards i : ℕ) (command : Command) (s : ℕ) (act : Act) (lt : s < sh
     abbrev clear_wanted : Bool
     clear_wanted = round_wanted shards (first_asked shards command Clears) a
 
-    clears-once : (j : ℕ) → j < 4 → due_by shards command Clears staged s j ≡ Some act → Now Clears (Once a) j
+    clears-once : (j : ℕ) → j < 4 → due_by shards command Clears staged s j ≡ Some act → IsAskedNext Clears (Once a) j
     clears-once j few h =
         let shape = staged-shape shards i command a s lt in
         let flag : some (λ t. first_wanted (staged t)) shards ≡ clear_wanted
@@ -298,7 +298,7 @@ module _ (shards i : ℕ) (command : Command) (s : ℕ) (act : Act) (lt : s < sh
       (append_assoc (first_steps shards i command course a s) (second_steps shards i command course a b s) (third_steps shards i command course a b c s)) h
 
   agrees : (course : Course) (standing : Standing) (j : ℕ) → j < 4 →
-      due_by shards command course (steps_so_far shards i command course standing) s j ≡ Some act → Now course standing j
+      due_by shards command course (steps_so_far shards i command course standing) s j ≡ Some act → IsAskedNext course standing j
   agrees Nowhere standing j few h = absurd (none-some act h)
   agrees (Alone t) Fresh j few h =
       let c = cond_found (t == s) (first_due (Run command) [] j) act h in

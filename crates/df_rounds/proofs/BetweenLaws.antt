@@ -1,26 +1,32 @@
 -- A call from its draw to what it leaves.
 use Rattle.std.proofs.Common.{◌≡◌, ◌≢◌, ℕ, suc, ◌+◌, ◌<◌, ◌≤◌, cond, not, is_some, List, [], ◌∷◌, ◌++◌, inl, inr, refl, sym, ap, ◌∙◌, subst, arith, append-nil, append_assoc}
 use Rattle.std.specs.Prelude.{Option, Some, None}
-use Rattle.std.proofs.lemmas.Bool.{false≢true}
+use Rattle.std.proofs.lemmas.Bool.{false≢true, eq-eqb, ne_eqb}
 use Rattle.df_order.specs.Lists.{Has}
 use Rattle.df_log.specs.Entries.{is_note}
 use Rattle.df_log.specs.declared.entry.Entry.{Entry}
+use Rattle.df_core.specs.Steps.{steps_of}
+use Rattle.df_core.specs.Due.{due}
 use Rattle.df_book.specs.Weights.{Each, count, hit, head_or}
 use Rattle.df_book.specs.Logs.{at_log, IsPrefix, Within, floor_of, greatest, uses, uses_in, uses_of, use_of}
-use Rattle.df_book.specs.Draws.{draws_of, last_number}
+use Rattle.df_book.specs.Draws.{draws_of, call_at, last_number}
 use Rattle.df_book.proofs.Running.{last-snoc}
-use Rattle.df_book.specs.Passes.{Caller, draw_by, after_draw}
+use Rattle.df_book.specs.Views.{longer_each}
+use Rattle.df_book.specs.Passes.{Caller, draw_by, after_draw, running_of}
 use Rattle.df_book.specs.declared.draw.Draw.{Draw}
-use Rattle.df_book.proofs.Logs.{prefix-total, within-refl, within-trans}
+use Rattle.df_book.proofs.Logs.{prefix-total, at-longer, within-left, within-right, within-refl, within-trans}
 use Rattle.df_book.proofs.Sums.{below-mono, hit-same, total-append, Each-append, Each-map}
+use Rattle.df_end.specs.Logs.{entries_in}
 use Rattle.df_end.specs.Calls.{Row, draws_in, CallLeft, Follows}
 use Rattle.df_end.specs.Rounds.{Hopped, RoundOf, Round, asked, acts_in}
 use Rattle.df_end.proofs.EntryLaws.{each-has, entries-same, calls_stay}
 use Rattle.df_end.proofs.RowLaws.{has-draws, draws-append, row-of}
 use Rattle.df_end.proofs.RoundLaws.{calls_begin, draws_keep_the_bound, calls_end, rounds_are_seen, floor-covers, chain-append, each-where, none-hit}
+use Rattle.df_end.proofs.AskedLaws.{answers_are_due}
+use Rattle.df_rounds.specs.Progress.{hop_next}
 use Rattle.df_rounds.specs.Underway.{IsBack, sent_at}
-use Rattle.df_rounds.specs.Between.{CallsAreDrawn, CallsAsk, CallsGoRound, CallsSee, CallsMove, CallsLeave, CallsPass, CallsDrawAgain}
-use Rattle.df_rounds.proofs.ProgressLaws.{calls_start, ends_leave}
+use Rattle.df_rounds.specs.Between.{TicketAsks, TicketsAsk, AnswersAgree, CallsAreDrawn, CallsAsk, CallsGoRound, CallsSee, CallsMove, CallsLeave, CallsPass, CallsDrawAgain}
+use Rattle.df_rounds.proofs.ProgressLaws.{calls_start, next_is_due, ends_leave}
 use Rattle.df_rounds.proofs.UnderwayLaws.{below-like, rounds_begin, rounds_end}
 
 pub calls_are_drawn : CallsAreDrawn
@@ -41,7 +47,7 @@ calls_are_drawn shards before call n above low none pos bounded =
     }
 
 pub calls_ask : CallsAsk
-calls_ask shards before call n w u b =
+calls_ask shards before call n progress u b =
     rounds_begin shards n u
     (omega (
       arith,
@@ -52,9 +58,47 @@ calls_ask shards before call n w u b =
     (ap last_number b.own ∙ last-snoc before.own (draw_by before call n))
     b.bounded
 
+-- the last draw's call
+call-last : (draws : List Draw) (d : Draw) → Each (λ (x : Draw). x.number < d.number) draws → call_at (draws ++ d ∷ []) d.number ≡ d.call
+call-last [] d low = ap (λ b. cond b d.call (call_at [] d.number)) (eq-eqb d.number d.number refl)
+call-last (x ∷ draws) d low =
+    ap (λ b. cond b x.call (call_at (draws ++ d ∷ []) d.number)) (ne_eqb x.number d.number (λ i. omega (arith, i, low.0)))
+    ∙ call-last draws d low.1
+
+pub tickets_ask : TicketsAsk
+tickets_ask shards before call n progress v u s act pos b own seen asked = record {
+  last = ap last_number is-own ∙ last-snoc before.own (draw_by before call n);
+  drawn = omega (arith, ap (draws_of n) own, (calls_ask shards before call n progress v b).drawn);
+  runs = ap (λ m. m ∷ []) (ap last_number is-own ∙ last-snoc before.own (draw_by before call n));
+  call_is = ap (λ draws. call_at draws n) is-own ∙ call-last before.own (draw_by before call n) b.above;
+  is_due = subst (λ steps. due shards call steps s (hop_next shards progress) ≡ Some act) (λ q i. steps_of (sym (entries-are i) q))
+      (next_is_due shards call progress (λ i. steps_of (b.es i)) s act pos b.stands asked);
+}
+  where
+    is-own : u.own ≡ before.own ++ draw_by before call n ∷ []
+    is-own = own ∙ b.own
+
+    entries-are : (i : ℕ) → entries_in shards u.seen n i ≡ b.es i
+    entries-are i = ap (λ logs. entries_in shards logs n i) seen ∙ b.hopped.entries i
+
+-- The shard had not seen more than the caller has by now, and whatever both saw leaves one act that is due.
+pub answers_agree : AnswersAgree
+answers_agree shards before call n progress v u r asked act pos b asks part within shown agreed =
+    answers_are_due shards v (record v { seen = longer_each v.seen r.seen }) r n (hop_next shards progress) asked act part
+    (record {
+      first = within-left v.seen r.seen;
+      second = within-right v.seen r.seen u.seen within shown;
+      longer = λ s. at-longer v.seen r.seen s;
+    })
+    t.drawn agreed
+    (ap (λ c. due shards c (λ i. steps_of (entries_in shards v.seen n i)) r.shard (hop_next shards progress)) t.call_is ∙ t.is_due)
+  where
+    t : TicketAsks shards call n r.shard (hop_next shards progress) asked (running_of v)
+    t = tickets_ask shards before call n progress v v r.shard asked pos b refl refl asks
+
 pub calls_go_round : CallsGoRound
-calls_go_round shards before call n w v u sent back told pos b under went may all-sent answers =
-    let r = rounds_end shards n v u sent back b.es call w told pos b.hopped b.stands under went may all-sent answers in record {
+calls_go_round shards before call n progress v u sent back told pos b under went may all-sent answers =
+    let r = rounds_end shards n v u sent back b.es call progress told pos b.hopped b.stands under went may all-sent answers in record {
       es = r.0;
       hopped = r.1;
       stands = r.2;
@@ -70,7 +114,7 @@ calls_go_round shards before call n w v u sent back told pos b under went may al
     }
 
 pub calls_see : CallsSee
-calls_see shards before call n w u r seen b both bounded = record {
+calls_see shards before call n progress u r seen b both bounded = record {
   es = b.es;
   hopped = record {
     used = omega (arith, b.hopped.used, most, least);
@@ -89,7 +133,7 @@ calls_see shards before call n w u r seen b both bounded = record {
 }
   where
     most : uses_in n seen (shards + 1) ≤ count n u.made
-    most = bounded n (shards + 1) (calls_ask shards before call n w u b).drawn
+    most = bounded n (shards + 1) (calls_ask shards before call n progress u b).drawn
 
     least : uses_in n u.seen (shards + 1) ≤ uses_in n seen (shards + 1)
     least =
@@ -97,7 +141,7 @@ calls_see shards before call n w u r seen b both bounded = record {
         (λ s. prefix-total (use_of n) (at_log u.seen s) (at_log seen s) (both.first s)) (shards + 1)
 
 pub calls_move : CallsMove
-calls_move shards before call n w now u b moves = record {
+calls_move shards before call n progress now u b moves = record {
   es = b.es;
   hopped = b.hopped;
   stands = moves _ b.stands;
@@ -113,7 +157,7 @@ calls_move shards before call n w now u b moves = record {
 }
 
 pub calls_leave : CallsLeave
-calls_leave shards before call n w u b none = record {
+calls_leave shards before call n progress u b none = record {
   place = b.sessions;
   own = b.own;
   made = b.made;
@@ -127,7 +171,7 @@ calls_leave shards before call n w u b none = record {
   floor = ((omega arith, b.floor), tt);
   above = (b.above, tt);
   follow = ((λ q h. absurd h), tt);
-  left = (ends_leave shards u (draw_by before call n) b.es w b.hopped b.stands none, tt);
+  left = (ends_leave shards u (draw_by before call n) b.es progress b.hopped b.stands none, tt);
 }
 
 -- ---- a call that never ran

@@ -24,6 +24,7 @@ use Rattle.df_core.proofs.HopLaws.{all_pass, Of, of_itself, of_other, of_append,
 use Rattle.df_core.proofs.ReadLaws.{done_may_end}
 use Rattle.df_end.specs.Rounds.{acts_in}
 use Rattle.df_end.proofs.RoundLaws.{rounds_are_seen, calls_end}
+use Rattle.df_end.proofs.AskedLaws.{steps-append}
 use Rattle.df_rounds.specs.Standing.{Standing, Fresh, Once, Twice, Thrice, round_wanted, first_asked, second_asked, third_asked, asks, first_hop, second_hop, third_hop, hop_of, then_told, step_told, first_steps, second_steps, third_steps, steps_so_far, MayBeTold, AllMayBeTold, IsReached}
 use Rattle.df_rounds.specs.Replies.{kept_of, reply_of}
 use Rattle.df_rounds.specs.Progress.{Stands, asks_in, hop_in, steps_in, IsReachedIn, GoesOn, asks_next, hop_next, after_round, Answers, reply_to, CallsStart, NextIsDue, RoundsGoOn, SeenGoesOn, CommandsGoOn, CallsGive, OverGoesOn, StopGoesOn, EndsLeave}
@@ -298,14 +299,14 @@ module _ (shards : ℕ) (pos : 0 < shards) (call : Call) (earlier : List Command
       ∙ now
 
 pub next_is_due : NextIsDue
-next_is_due shards call w steps s act pos st asked = go w.left w.standing st.commands st.split asked
+next_is_due shards call progress steps s act pos st asked = go progress.left progress.standing st.commands st.split asked
   where
     go : (left : List Command) (standing : Standing) → commands_of call ≡ st.earlier ++ left →
-        ((t : ℕ) → steps t ≡ st.before t ++ steps_in shards w.at left standing t) → asks_in shards left standing s ≡ Some act →
-        due shards call steps s (4 * w.at + hop_in shards left standing) ≡ Some act
+        ((t : ℕ) → steps t ≡ st.before t ++ steps_in shards progress.at left standing t) → asks_in shards left standing s ≡ Some act →
+        due shards call steps s (4 * progress.at + hop_in shards left standing) ≡ Some act
     go [] standing c split a = absurd (none-some act a)
     go (command ∷ commands) standing c split a =
-        next-due shards pos call st.earlier command commands c w.at st.at st.before st.marks w.replies st.done standing steps split s act a
+        next-due shards pos call st.earlier command commands c progress.at st.at st.before st.marks progress.replies st.done standing steps split s act a
 
 -- ---- going on
 
@@ -347,18 +348,18 @@ steps-more shards i (command ∷ commands) (Twice a b) told asked s = refl
 steps-more shards i (command ∷ commands) (Thrice a b c) told asked s = absurd (false≢true (some-found (λ t. false) shards asked).2)
 
 pub rounds_go_on : RoundsGoOn
-rounds_go_on shards call w steps told st asked may = record {
+rounds_go_on shards call progress steps told st asked may = record {
   earlier = st.earlier;
   commands = st.commands;
   at = st.at;
   before = st.before;
   marks = st.marks;
   done = st.done;
-  reached = reached-more shards w.left w.standing told st.reached asked may;
+  reached = reached-more shards progress.left progress.standing told st.reached asked may;
   split = λ s. (
-      ap (λ l. l ++ step_told (hop_next shards w) (asks_next shards w s) (told s)) (st.split s)
-      ∙ append_assoc (st.before s) (steps_in shards w.at w.left w.standing s) (step_told (hop_next shards w) (asks_next shards w s) (told s))
-      ∙ ap (λ l. st.before s ++ l) (steps-more shards w.at w.left w.standing told asked s));
+      ap (λ l. l ++ step_told (hop_next shards progress) (asks_next shards progress s) (told s)) (st.split s)
+      ∙ append_assoc (st.before s) (steps_in shards progress.at progress.left progress.standing s) (step_told (hop_next shards progress) (asks_next shards progress s) (told s))
+      ∙ ap (λ l. st.before s ++ l) (steps-more shards progress.at progress.left progress.standing told asked s));
 }
 
 -- what is told of an act is no note's
@@ -388,10 +389,6 @@ no-note shards s K act _ (IsTold.wanted _ h) = takes act h
     takes acts.Pull h = absurd (false≢true h)
     takes acts.Saved h = absurd (false≢true h)
 
-steps-append : (xs ys : List Entry) → steps_of (xs ++ ys) ≡ steps_of xs ++ steps_of ys
-steps-append [] ys = refl
-steps-append (x ∷ xs) ys = ap (λ l. step_of x ∷ l) (steps-append xs ys)
-
 -- the entry of an answer is the step that was asked for
 answer-step : (shards s hop : ℕ) (asked : Option Act) (told : Told) (entry : Option Entry) → MayBeTold shards s asked told →
     Answers hop asked told entry → steps_of (acts_in entry) ≡ step_told hop asked told
@@ -402,13 +399,13 @@ answer-step shards s hop (Some act) told entry may a =
     ∙ ap (λ x. x ∷ []) a.2
 
 pub seen_goes_on : SeenGoesOn
-seen_goes_on shards n v u es round call w told hopped r st asked may answers = (
+seen_goes_on shards n v u es round call progress told hopped r st asked may answers = (
   (λ s. es s ++ acts_in (round s)),
   rounds_are_seen shards n v u es round hopped r,
-  subst (Stands shards call (after_round told w))
+  subst (Stands shards call (after_round told progress))
       (λ q s. sym (steps-append (es s) (acts_in (round s))
-      ∙ ap (λ l. steps_of (es s) ++ l) (answer-step shards s (hop_next shards w) (asks_next shards w s) (told s) (round s) (may s) (answers s))) q)
-      (rounds_go_on shards call w (λ s. steps_of (es s)) told st asked may),
+      ∙ ap (λ l. steps_of (es s) ++ l) (answer-step shards s (hop_next shards progress) (asks_next shards progress s) (told s) (round s) (may s) (answers s))) q)
+      (rounds_go_on shards call progress (λ s. steps_of (es s)) told st asked may),
 )
 
 length-more : {X : Type 0} (xs : List X) (x : X) → length (xs ++ x ∷ []) ≡ suc (length xs)
@@ -416,17 +413,17 @@ length-more [] x = refl
 length-more (y ∷ xs) x = ap suc (length-more xs x)
 
 pub commands_go_on : CommandsGoOn
-commands_go_on shards call w steps command commands kept reply st is done = record {
+commands_go_on shards call progress steps command commands kept reply st is done = record {
   earlier = st.earlier ++ command ∷ [];
   commands = st.commands ∙ ap (λ l. st.earlier ++ l) is ∙ sym (append_assoc st.earlier (command ∷ []) commands);
   at = length-more st.earlier command ∙ ap suc st.at;
   before = steps;
   marks = st.marks ++ kept ∷ [];
-  done = snoc shards 0 w.at st.earlier st.before st.marks w.replies st.done (omega (arith, st.at)) command
-      (steps_so_far shards w.at command (course_of shards command) w.standing) kept reply done steps
-      (λ s. st.split s ∙ ap (λ l. st.before s ++ steps_in shards w.at l w.standing s) is);
+  done = snoc shards 0 progress.at st.earlier st.before st.marks progress.replies st.done (omega (arith, st.at)) command
+      (steps_so_far shards progress.at command (course_of shards command) progress.standing) kept reply done steps
+      (λ s. st.split s ∙ ap (λ l. st.before s ++ steps_in shards progress.at l progress.standing s) is);
   reached = reached-yet shards commands;
-  split = λ s. sym (append-nil (steps s)) ∙ ap (λ l. steps s ++ l) (sym (nothing-yet shards (suc w.at) commands s));
+  split = λ s. sym (append-nil (steps s)) ∙ ap (λ l. steps s ++ l) (sym (nothing-yet shards (suc progress.at) commands s));
 }
 
 -- what was told of the next command is as it stands
@@ -435,16 +432,16 @@ reached-there : (shards : ℕ) (left : List Command) (command : Command) (comman
 reached-there shards left command commands standing is reached = subst (λ l. IsReachedIn shards l standing) is reached
 
 pub over_goes_on : OverGoesOn
-over_goes_on shards call w steps command commands saved pos st is over saves =
+over_goes_on shards call progress steps command commands saved pos st is over saves =
     let course = course_of shards command in
-    commands_go_on shards call w steps command commands (kept_of shards command course w.standing)
-    (reply_of shards command course saved w.standing) st is
-    (over_is_done shards w.at command w.standing saved pos (reached-there shards w.left command commands w.standing is st.reached) over saves)
+    commands_go_on shards call progress steps command commands (kept_of shards command course progress.standing)
+    (reply_of shards command course saved progress.standing) st is
+    (over_is_done shards progress.at command progress.standing saved pos (reached-there shards progress.left command commands progress.standing is st.reached) over saves)
 
 pub stop_goes_on : StopGoesOn
-stop_goes_on shards call w steps command commands pos st is stops =
-    commands_go_on shards call w steps command commands false want_of_memory st is
-    (stop_is_done shards w.at command w.standing pos (reached-there shards w.left command commands w.standing is st.reached) stops)
+stop_goes_on shards call progress steps command commands pos st is stops =
+    commands_go_on shards call progress steps command commands false want_of_memory st is
+    (stop_is_done shards progress.at command progress.standing pos (reached-there shards progress.left command commands progress.standing is st.reached) stops)
 
 -- ---- the reply
 
@@ -458,14 +455,14 @@ gives shards (Single command) steps (kept ∷ []) (reply ∷ r ∷ replies) d = 
 gives shards (Exec commands) steps marks replies d = (marks, replies, refl, d)
 
 pub calls_give : CallsGive
-calls_give shards call w steps st none =
-    gives shards call steps st.marks w.replies
-    (subst (λ cs. DoneAll shards 0 cs steps st.marks w.replies) (sym (st.commands ∙ ap (λ l. st.earlier ++ l) none ∙ append-nil st.earlier))
-    (subst (λ f. DoneAll shards 0 st.earlier f st.marks w.replies) (λ q s. sym (same s) q) st.done))
+calls_give shards call progress steps st none =
+    gives shards call steps st.marks progress.replies
+    (subst (λ cs. DoneAll shards 0 cs steps st.marks progress.replies) (sym (st.commands ∙ ap (λ l. st.earlier ++ l) none ∙ append-nil st.earlier))
+    (subst (λ f. DoneAll shards 0 st.earlier f st.marks progress.replies) (λ q s. sym (same s) q) st.done))
   where
     same : (s : ℕ) → steps s ≡ st.before s
-    same s = st.split s ∙ ap (λ l. st.before s ++ steps_in shards w.at l w.standing s) none ∙ append-nil (st.before s)
+    same s = st.split s ∙ ap (λ l. st.before s ++ steps_in shards progress.at l progress.standing s) none ∙ append-nil (st.before s)
 
 pub ends_leave : EndsLeave
-ends_leave shards u d es w hopped st none =
-    (calls_end shards u d es hopped).0 (reply_to d.call w.replies) (calls_give shards d.call w (λ s. steps_of (es s)) st none)
+ends_leave shards u d es progress hopped st none =
+    (calls_end shards u d es hopped).0 (reply_to d.call progress.replies) (calls_give shards d.call progress (λ s. steps_of (es s)) st none)

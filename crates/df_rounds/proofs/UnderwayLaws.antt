@@ -170,11 +170,11 @@ uses-one shards s K act _ (IsTold.wanted _ h) = takes act h
     takes acts.Saved h = absurd (false≢true h)
 
 pub answers_are_new : AnswersAreNew
-answers_are_new shards n v es call w s act told e pos hopped st asked may number step has =
+answers_are_new shards n v es call progress s act told e pos hopped st asked may number step has =
     (let low = next_rises shards call es s e e is-next (subst (λ l. Has l e) (hopped.entries s) there) in omega (arith, low))
   where
-    is-due : due shards call (λ t. steps_of (es t)) s (hop_next shards w) ≡ Some act
-    is-due = next_is_due shards call w (λ t. steps_of (es t)) s act pos st asked
+    is-due : due shards call (λ t. steps_of (es t)) s (hop_next shards progress) ≡ Some act
+    is-due = next_is_due shards call progress (λ t. steps_of (es t)) s act pos st asked
 
     is-next : due shards call (λ t. steps_of (es t)) s e.hop ≡ Some e.act
     is-next = ap (due shards call (λ t. steps_of (es t)) s) (ap (λ x. x.hop) step) ∙ is-due ∙ ap Some (sym (ap (λ x. x.act) step))
@@ -188,7 +188,7 @@ answers_are_new shards n v es call w s act told e pos hopped st asked may number
     there =
         own_has (calls shards) n (logs_in shards v.seen s) e
         (subst (λ b. Has (if b then acts_of (at_log v.seen s) else []) e)
-        (sym (lt-ltb s shards (due_within shards call (λ t. steps_of (es t)) s (hop_next shards w) act is-due))) among)
+        (sym (lt-ltb s shards (due_within shards call (λ t. steps_of (es t)) s (hop_next shards progress) act is-due))) among)
         number
 
 asks-beyond : (shards : ℕ) (left : List Command) (standing : Standing) (s : ℕ) → shards ≤ s → asks_in shards left standing s ≡ None
@@ -203,11 +203,11 @@ answered hop None told entry a = sym (ap is_some a)
 answered hop (Some act) told entry a = sym (ap is_some a.1)
 
 pub rounds_end : RoundsEnd
-rounds_end shards n v u sent back es call w told pos hopped st under went may all-sent answers =
-    seen_goes_on shards n v u es back call w told hopped round st went may answers
+rounds_end shards n v u sent back es call progress told pos hopped st under went may all-sent answers =
+    seen_goes_on shards n v u es back call progress told hopped round st went may answers
   where
-    one : (s : ℕ) (o : Option Act) → asks_next shards w s ≡ o → MayBeTold shards s o (told s) →
-        Answers (hop_next shards w) o (told s) (back s) → RoundOf n s v.seen u.seen (back s)
+    one : (s : ℕ) (o : Option Act) → asks_next shards progress s ≡ o → MayBeTold shards s o (told s) →
+        Answers (hop_next shards progress) o (told s) (back s) → RoundOf n s v.seen u.seen (back s)
     one s None is m a = subst (RoundOf n s v.seen u.seen) (sym a) tt
     one s (Some act) is m a =
         let b = subst (IsBack n s u.seen) a.1 (under.came s) in
@@ -215,7 +215,7 @@ rounds_end shards n v u sent back es call w told pos hopped st under went may al
           number = b.0;
           uses_one = ap uses (ap (λ x. x.act) a.2) ∙ uses-one shards s m.0 act (told s) m.1;
           seen = b.1;
-          is_new = answers_are_new shards n v es call w s act (told s) a.0 pos hopped st is m b.0 a.2;
+          is_new = answers_are_new shards n v es call progress s act (told s) a.0 pos hopped st is m b.0 a.2;
         }
 
     round : Round shards n v u back
@@ -226,9 +226,9 @@ rounds_end shards n v u sent back es call w told pos hopped st under went may al
       made = (
           under.count_is
           ∙ ap (λ k. count n v.made + k) (below-like (sent_at sent) (asked back) shards
-          (λ s. ap (λ b. cond b 1 0) (all-sent s ∙ answered (hop_next shards w) (asks_next shards w s) (told s) (back s) (answers s)))));
+          (λ s. ap (λ b. cond b 1 0) (all-sent s ∙ answered (hop_next shards progress) (asks_next shards progress s) (told s) (back s) (answers s)))));
       beyond = λ s le. (
-          let none = asks-beyond shards w.left w.standing s le in
-          subst (λ o. Answers (hop_next shards w) o (told s) (back s)) none (answers s));
-      answers = λ s. one s (asks_next shards w s) refl (may s) (answers s);
+          let none = asks-beyond shards progress.left progress.standing s le in
+          subst (λ o. Answers (hop_next shards progress) o (told s) (back s)) none (answers s));
+      answers = λ s. one s (asks_next shards progress s) refl (may s) (answers s);
     }

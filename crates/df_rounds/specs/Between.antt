@@ -2,16 +2,19 @@
 use Rattle.std.specs.Prelude.{◌≡◌, ℕ, ◌<◌, ◌≤◌, Bool, false, is_some, Option, Some, None, List, [], ◌∷◌, ◌++◌}
 use Rattle.df_model.specs.declared.command.Call.{Call}
 use Rattle.df_model.specs.declared.reply.Reply.{Reply}
-use Rattle.df_log.specs.Acts.{Told, Passed}
+use Rattle.df_log.specs.Acts.{Act, Told, Passed}
 use Rattle.df_log.specs.declared.entry.Entry.{Entry}
 use Rattle.df_core.specs.Steps.{Step, steps_of}
+use Rattle.df_core.specs.Due.{due}
 use Rattle.df_core.specs.History.{NamesAShard}
 use Rattle.df_book.specs.Weights.{Each, count}
 use Rattle.df_book.specs.Logs.{AllBelow, Within, BothSeen, floor_of}
-use Rattle.df_book.specs.Draws.{Bounded}
-use Rattle.df_book.specs.Passes.{Caller, Receipt, draw_by, after_draw, after_receipt}
+use Rattle.df_book.specs.Draws.{Bounded, OwnAgreed, call_at, draws_of, last_number}
+use Rattle.df_book.specs.Passes.{Caller, Receipt, Ticket, draw_by, after_draw, after_receipt, running_of}
 use Rattle.df_book.specs.declared.draw.Draw.{Draw}
+use Rattle.df_end.specs.Logs.{entries_in}
 use Rattle.df_end.specs.Calls.{Row}
+use Rattle.df_end.specs.Asked.{PartDue}
 use Rattle.df_end.specs.Rounds.{Hopped, CallWent}
 use Rattle.df_rounds.specs.Standing.{AllMayBeTold}
 use Rattle.df_rounds.specs.Progress.{Progress, Stands, Answers, GoesOn, progress_of, asks_next, hop_next, after_round, reply_to}
@@ -35,6 +38,15 @@ pub record Between (shards : ℕ) (before : Caller) (call : Call) (n : ℕ) (pro
   pub floor : floor_of before.seen < n
   pub above : Each (λ (d : Draw). d.number < n) before.own
 
+-- A running ticket of the call, by which this is due on the shard: the ticket tells of the draw, and shows the entries
+-- that its caller had seen of it.
+pub record TicketAsks (shards : ℕ) (call : Call) (n s hop : ℕ) (act : Act) (t : Ticket) : Type 0 where
+  pub last : last_number t.known ≡ n
+  pub drawn : 0 < draws_of n t.known
+  pub runs : t.runs ≡ n ∷ []
+  pub call_is : call_at t.known n ≡ call
+  pub is_due : due shards call (λ i. steps_of (entries_in shards t.seen n i)) s hop ≡ Some act
+
 -- the call's row once it has ended, or where it never ran
 abbrev pub row_of : Caller → Call → ℕ → Option Reply → Row
 row_of before call n reply = record { draw = draw_by before call n; reply = reply }
@@ -53,6 +65,20 @@ abbrev pub CallsAsk : Type 0
 CallsAsk =
     (shards : ℕ) (before : Caller) (call : Call) (n : ℕ) (progress : Progress) (u : Caller) → Between shards before call n progress u →
     Underway shards n u u (λ s. false) (λ s. None)
+
+-- each ticket of the round that is made before its first receipt is taken says what is asked
+abbrev pub TicketsAsk : Type 0
+TicketsAsk =
+    (shards : ℕ) (before : Caller) (call : Call) (n : ℕ) (progress : Progress) (v u : Caller) (s : ℕ) (act : Act) → 0 < shards →
+    Between shards before call n progress v → u.own ≡ v.own → u.seen ≡ v.seen → asks_next shards progress s ≡ Some act →
+    TicketAsks shards call n s (hop_next shards progress) act (running_of u)
+
+-- and what an answer's part was is what was asked, however much more or less of the call its shard had seen
+abbrev pub AnswersAgree : Type 0
+AnswersAgree =
+    (shards : ℕ) (before : Caller) (call : Call) (n : ℕ) (progress : Progress) (v u : Caller) (r : Receipt) (asked act : Act) → 0 < shards →
+    Between shards before call n progress v → asks_next shards progress r.shard ≡ Some asked →
+    PartDue shards r n (hop_next shards progress) act → Within v.seen u.seen → Within r.seen u.seen → OwnAgreed v.own r.known → act ≡ asked
 
 -- behind a round
 abbrev pub CallsGoRound : Type 0
