@@ -2,6 +2,7 @@
 use Rattle.std.proofs.Common.{◌≡◌, ℕ, suc, ◌+◌, ◌*◌, ◌/◌, ◌%◌, ◌<◌, ◌≤◌, Bool, true, false, cond, not, length, List, [], ◌∷◌, ◌++◌, refl, sym, ap, ◌∙◌, subst, arith, append-nil, append_assoc}
 use Rattle.std.specs.Prelude.{Option, Some, None, ◌==◌, nat_lt}
 use Rattle.std.proofs.lemmas.Bool.{false≢true, and_from, and_parts, lt-ltb, ltb-true, eq-eqb, ne_eqb}
+use Rattle.std.proofs.lemmas.List.{length-append}
 use Rattle.std.proofs.lemmas.Option.{none-some}
 use Rattle.df_model.specs.Keyspace.{Keyspace}
 use Rattle.df_model.specs.declared.command.Command.{Command}
@@ -22,6 +23,7 @@ use Rattle.df_core.specs.Due.{every, of_command, all_below, none_behind, may_end
 use Rattle.df_core.specs.Done.{Done, DoneAll, Gives, want_of_memory}
 use Rattle.df_core.proofs.HopLaws.{all_pass, Of, of_itself, of_other, of_append, of_before, done_of, all_from}
 use Rattle.df_core.proofs.ReadLaws.{done_may_end}
+use Rattle.df_book.specs.Logs.{uses}
 use Rattle.df_end.specs.Rounds.{acts_in}
 use Rattle.df_end.proofs.RoundLaws.{rounds_are_seen, calls_end}
 use Rattle.df_end.proofs.AskedLaws.{steps-append}
@@ -362,29 +364,29 @@ rounds_go_on shards call progress steps told st asked may = record {
       ∙ ap (λ l. st.before s ++ l) (steps-more shards progress.at progress.left progress.standing told asked s));
 }
 
--- what is told of an act is no note's
-pub no-note : (shards s : ℕ) (K : Keyspace) (act : Act) (told : Told) → IsTold shards s K act told → is_note act ≡ false
-no-note shards s K _ _ (IsTold.ran c) = refl
-no-note shards s K _ _ (IsTold.read keys) = refl
-no-note shards s K _ _ (IsTold.staged changes) = refl
-no-note shards s K _ _ IsTold.applied = refl
-no-note shards s K _ _ IsTold.unstaged = refl
-no-note shards s K _ _ IsTold.began = refl
-no-note shards s K _ _ IsTold.walked = refl
-no-note shards s K _ _ IsTold.counted = refl
-no-note shards s K _ _ IsTold.cleared = refl
-no-note shards s K act _ (IsTold.wanted _ h) = takes act h
+-- an act that may be told something is no note, and uses its ticket up
+pub acts-use : (shards s : ℕ) (K : Keyspace) (act : Act) (told : Told) → IsTold shards s K act told → (is_note act ≡ false) × (uses act ≡ 1)
+acts-use shards s K _ _ (IsTold.ran c) = (refl, refl)
+acts-use shards s K _ _ (IsTold.read keys) = (refl, refl)
+acts-use shards s K _ _ (IsTold.staged changes) = (refl, refl)
+acts-use shards s K _ _ IsTold.applied = (refl, refl)
+acts-use shards s K _ _ IsTold.unstaged = (refl, refl)
+acts-use shards s K _ _ IsTold.began = (refl, refl)
+acts-use shards s K _ _ IsTold.walked = (refl, refl)
+acts-use shards s K _ _ IsTold.counted = (refl, refl)
+acts-use shards s K _ _ IsTold.cleared = (refl, refl)
+acts-use shards s K act _ (IsTold.wanted _ h) = takes act h
   where
-    takes : (a : Act) → may_want a ≡ true → is_note a ≡ false
-    takes (Run command) h = refl
-    takes (Read keys) h = refl
-    takes (Stage changes) h = refl
-    takes Apply h = refl
-    takes Unstage h = refl
-    takes Begin h = refl
-    takes Walk h = refl
-    takes Count h = refl
-    takes Clear h = refl
+    takes : (a : Act) → may_want a ≡ true → (is_note a ≡ false) × (uses a ≡ 1)
+    takes (Run command) h = (refl, refl)
+    takes (Read keys) h = (refl, refl)
+    takes (Stage changes) h = (refl, refl)
+    takes Apply h = (refl, refl)
+    takes Unstage h = (refl, refl)
+    takes Begin h = (refl, refl)
+    takes Walk h = (refl, refl)
+    takes Count h = (refl, refl)
+    takes Clear h = (refl, refl)
     takes acts.Passed h = absurd (false≢true h)
     takes acts.Pull h = absurd (false≢true h)
     takes acts.Saved h = absurd (false≢true h)
@@ -395,7 +397,7 @@ answer-step : (shards s hop : ℕ) (asked : Option Act) (told : Told) (entry : O
 answer-step shards s hop None told entry may a = ap (λ o. steps_of (acts_in o)) a
 answer-step shards s hop (Some act) told entry may a =
     ap (λ o. steps_of (acts_in o)) a.1
-    ∙ ap (λ b. steps_of (cons_if (not b) a.0 [])) (ap is_note (ap (λ x. x.act) a.2) ∙ no-note shards s may.0 act told may.1)
+    ∙ ap (λ b. steps_of (cons_if (not b) a.0 [])) (ap is_note (ap (λ x. x.act) a.2) ∙ (acts-use shards s may.0 act told may.1).0)
     ∙ ap (λ x. x ∷ []) a.2
 
 pub seen_goes_on : SeenGoesOn
@@ -408,15 +410,11 @@ seen_goes_on shards n v u es round call progress told hopped r st asked may answ
       (rounds_go_on shards call progress (λ s. steps_of (es s)) told st asked may),
 )
 
-length-more : {X : Type 0} (xs : List X) (x : X) → length (xs ++ x ∷ []) ≡ suc (length xs)
-length-more [] x = refl
-length-more (y ∷ xs) x = ap suc (length-more xs x)
-
 pub commands_go_on : CommandsGoOn
 commands_go_on shards call progress steps command commands kept reply st is done = record {
   earlier = st.earlier ++ command ∷ [];
   commands = st.commands ∙ ap (λ l. st.earlier ++ l) is ∙ sym (append_assoc st.earlier (command ∷ []) commands);
-  at = length-more st.earlier command ∙ ap suc st.at;
+  at = length-append st.earlier (command ∷ []) ∙ omega (arith, st.at);
   before = steps;
   marks = st.marks ++ kept ∷ [];
   done = snoc shards 0 progress.at st.earlier st.before st.marks progress.replies st.done (omega (arith, st.at)) command

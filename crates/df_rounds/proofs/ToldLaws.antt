@@ -1,7 +1,7 @@
 -- What the steps of a command show of what its shards were asked and told.
 use Rattle.std.proofs.Common.{◌≡◌, ℕ, zero, suc, ◌<◌, ◌≤◌, Bool, true, false, cond, not, is_some, length, List, [], ◌∷◌, ◌++◌, inl, inr, refl, sym, ap, ◌∙◌, arith}
 use Rattle.std.specs.Prelude.{Option, Some, None, ◌&&◌, ◌||◌, nat_lt}
-use Rattle.std.proofs.lemmas.Bool.{false≢true, true≢false, or_cases, lt-ltb, le-ltb, ltb-true, cases_lt}
+use Rattle.std.proofs.lemmas.Bool.{false≢true, true≢false, false_from_ne_true, or_cases, lt-ltb, le-ltb, ltb-true, cases_lt}
 use Rattle.std.proofs.lemmas.Option.{none-some}
 use Rattle.df_model.specs.Values.{Bytes}
 use Rattle.df_model.specs.Keyspace.{Keyspace}
@@ -13,7 +13,7 @@ use Rattle.df_core.specs.Altered.{altered}
 use Rattle.df_core.specs.Courses.{Spread, keys_on, changes_on}
 use Rattle.df_core.specs.Steps.{Step}
 use Rattle.df_core.specs.Due.{some, is_nil, values_in, values_of, with_values, read_on, values_read, all_read, first_wanted, second_wanted}
-use Rattle.df_core.proofs.HopLaws.{all_pass}
+use Rattle.df_core.proofs.HopLaws.{all_pass, one_passes}
 use Rattle.df_core.proofs.StepLaws.{either_way}
 use Rattle.df_core.proofs.DueLaws.{cond_found}
 use Rattle.df_rounds.specs.Standing.{Asked, on_shards, round_wanted, read_of, stage_of, end_of, told_below, values_told, first_asked, asks, Once, step_told}
@@ -33,22 +33,9 @@ some-found p (suc t) h = elim (or_cases (p t) (some p t) h) [
 
 -- where none of them passes, each does not
 pub some-none : (p : ℕ → Bool) (n : ℕ) → some p n ≡ false → (t : ℕ) → t < n → p t ≡ false
-some-none p n h t lt = go (p t) refl
-  where
-    at : (m : ℕ) → t < m → p t ≡ true → some p m ≡ true
-    at zero l e = absurd (omega (arith, l))
-    at (suc m) l e = elim (cases_lt t m) [
-      | inl low ↦ (let r = at m low e in ap (λ b. p m || b) r ∙ both (p m))
-      | inr ge ↦ (let is : t ≡ m = omega (arith, ge, l) in ap (λ b. b || some p m) (sym (ap p is) ∙ e))
-    ]
-      where
-        both : (b : Bool) → (b || true) ≡ true
-        both true = refl
-        both false = refl
+some-none p n h t lt = false_from_ne_true (p t) (λ e. false≢true (sym h ∙ one_passes p n t lt e))
 
-    go : (b : Bool) → p t ≡ b → b ≡ false
-    go false e = refl
-    go true e = absurd (false≢true (sym h ∙ at n lt e))
+-- ---- what is asked
 
 pub on-in : (shards : ℕ) (asked : Asked) (s : ℕ) → s < shards → on_shards shards asked s ≡ asked s
 on-in shards asked s lt = ap (λ b. cond b (asked s) None) (lt-ltb s shards lt)

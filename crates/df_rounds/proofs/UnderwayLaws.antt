@@ -21,8 +21,9 @@ use Rattle.df_core.specs.Due.{due}
 use Rattle.df_core.specs.Calls.{calls}
 use Rattle.df_core.proofs.DueLaws.{due_within, next_rises}
 use Rattle.df_book.specs.Weights.{below, count, hit}
-use Rattle.df_book.specs.Logs.{at_log, Within, uses}
-use Rattle.df_book.specs.Draws.{last_number}
+use Rattle.df_book.specs.Logs.{at_log, Within, BothSeen, uses}
+use Rattle.df_book.specs.Draws.{Bounded, last_number}
+use Rattle.df_book.specs.Passes.{Caller, Receipt, after_receipt}
 use Rattle.df_book.proofs.Logs.{within-refl, within-trans}
 use Rattle.df_book.proofs.Sums.{hit-same, total-append, Each-append}
 use Rattle.df_end.specs.Logs.{logs_in, entries_in}
@@ -31,9 +32,9 @@ use Rattle.df_end.proofs.RoundLaws.{tickets_keep_the_bound}
 use Rattle.df_end.proofs.FlushLaws.{has-prefix}
 use Rattle.df_rounds.specs.Standing.{Standing, Fresh, Once, Twice, Thrice, first_asked, second_asked, third_asked, MayBeTold}
 use Rattle.df_rounds.specs.Progress.{Answers, asks_in, asks_next, hop_next}
-use Rattle.df_rounds.specs.Underway.{IsBack, sent_at, RoundsBegin, RoundsSend, RoundsTake, RoundsSee, AnswersAreNew, RoundsEnd}
+use Rattle.df_rounds.specs.Underway.{IsBack, sent_at, Underway, RoundsBegin, RoundsSend, RoundsTake, RoundsSee, AnswersAreNew, RoundsEnd}
 use Rattle.df_rounds.proofs.ToldLaws.{on-out}
-use Rattle.df_rounds.proofs.ProgressLaws.{no-note, next_is_due, seen_goes_on}
+use Rattle.df_rounds.proofs.ProgressLaws.{acts-use, next_is_due, seen_goes_on}
 
 -- ---- sums
 
@@ -104,8 +105,11 @@ rounds_send shards n v u sent back s lt not-yet r = record {
   came = r.came;
 }
 
-pub rounds_take : RoundsTake
-rounds_take shards n v u sent back r seen e both shown has is bounded under = record {
+-- a receipt comes, behind which these entries are back
+received : (shards n : ℕ) (v u : Caller) (sent : ℕ → Bool) (back now : ℕ → Option Entry) (r : Receipt) (seen : List (List Entry)) →
+    BothSeen u.seen r.seen seen → Bounded u.own u.made seen → Underway shards n v u sent back → ((s : ℕ) → IsBack n s seen (now s)) →
+    Underway shards n v (after_receipt u r seen) sent now
+received shards n v u sent back now r seen both bounded under came = record {
   sessions = under.sessions;
   own = under.own;
   drawn = under.drawn;
@@ -116,58 +120,24 @@ rounds_take shards n v u sent back r seen e both shown has is bounded under = re
   made_is = under.made_is;
   made_own = under.made_own;
   count_is = under.count_is;
-  came = λ s. put_case (IsBack n s seen) r.shard s (Some e) back
-      (λ (here : s ≡ r.shard). (
-        is,
-        subst (λ t. Has (at_log seen t) e) (sym here)
-            (has-prefix (at_log r.seen r.shard) (at_log seen r.shard) e (both.second r.shard) (subst (λ l. Has l e) (sym shown) has)),
-      ))
-      (λ _. back-stays n s u.seen seen (back s) both.first (under.came s));
+  came = came;
 }
+
+pub rounds_take : RoundsTake
+rounds_take shards n v u sent back r seen e both shown has is bounded under =
+    received shards n v u sent back (put r.shard (Some e) back) r seen both bounded under (λ s. put_case (IsBack n s seen) r.shard s (Some e) back
+    (λ (here : s ≡ r.shard). (
+      is,
+      subst (λ t. Has (at_log seen t) e) (sym here)
+          (has-prefix (at_log r.seen r.shard) (at_log seen r.shard) e (both.second r.shard) (subst (λ l. Has l e) (sym shown) has)),
+    ))
+    (λ _. back-stays n s u.seen seen (back s) both.first (under.came s)))
 
 pub rounds_see : RoundsSee
-rounds_see shards n v u sent back r seen both bounded under = record {
-  sessions = under.sessions;
-  own = under.own;
-  drawn = under.drawn;
-  last = under.last;
-  within = within-trans v.seen u.seen seen under.within both.first;
-  bounded = bounded;
-  made = under.made;
-  made_is = under.made_is;
-  made_own = under.made_own;
-  count_is = under.count_is;
-  came = λ s. back-stays n s u.seen seen (back s) both.first (under.came s);
-}
+rounds_see shards n v u sent back r seen both bounded under =
+    received shards n v u sent back back r seen both bounded under (λ s. back-stays n s u.seen seen (back s) both.first (under.came s))
 
 -- ---- the end of a round
-
--- an act that may be told something uses its ticket up
-uses-one : (shards s : ℕ) (K : Keyspace) (act : Act) (told : Told) → IsTold shards s K act told → uses act ≡ 1
-uses-one shards s K _ _ (IsTold.ran c) = refl
-uses-one shards s K _ _ (IsTold.read keys) = refl
-uses-one shards s K _ _ (IsTold.staged changes) = refl
-uses-one shards s K _ _ IsTold.applied = refl
-uses-one shards s K _ _ IsTold.unstaged = refl
-uses-one shards s K _ _ IsTold.began = refl
-uses-one shards s K _ _ IsTold.walked = refl
-uses-one shards s K _ _ IsTold.counted = refl
-uses-one shards s K _ _ IsTold.cleared = refl
-uses-one shards s K act _ (IsTold.wanted _ h) = takes act h
-  where
-    takes : (a : Act) → may_want a ≡ true → uses a ≡ 1
-    takes (Run command) h = refl
-    takes (Read keys) h = refl
-    takes (Stage changes) h = refl
-    takes Apply h = refl
-    takes Unstage h = refl
-    takes Begin h = refl
-    takes Walk h = refl
-    takes Count h = refl
-    takes Clear h = refl
-    takes acts.Passed h = refl
-    takes acts.Pull h = absurd (false≢true h)
-    takes acts.Saved h = absurd (false≢true h)
 
 pub answers_are_new : AnswersAreNew
 answers_are_new shards n v es call progress s act told e pos hopped st asked may number step has =
@@ -182,7 +152,7 @@ answers_are_new shards n v es call progress s act told e pos hopped st asked may
     among : Has (acts_of (at_log v.seen s)) e
     among =
         only_has (λ (x : Entry). not (is_note x.act)) (at_log v.seen s) e has
-        (ap not (ap is_note (ap (λ x. x.act) step) ∙ no-note shards s may.0 act told may.1))
+        (ap not (ap is_note (ap (λ x. x.act) step) ∙ (acts-use shards s may.0 act told may.1).0))
 
     there : Has (entries_in shards v.seen n s) e
     there =
@@ -213,7 +183,7 @@ rounds_end shards n v u sent back es call progress told pos hopped st under went
         let b = subst (IsBack n s u.seen) a.1 (under.came s) in
         subst (RoundOf n s v.seen u.seen) (sym a.1) record {
           number = b.0;
-          uses_one = ap uses (ap (λ x. x.act) a.2) ∙ uses-one shards s m.0 act (told s) m.1;
+          uses_one = ap uses (ap (λ x. x.act) a.2) ∙ (acts-use shards s m.0 act (told s) m.1).1;
           seen = b.1;
           is_new = answers_are_new shards n v es call progress s act (told s) a.0 pos hopped st is m b.0 a.2;
         }
