@@ -18,7 +18,7 @@ use Rattle.df_log.specs.Entries.{is_note}
 use Rattle.df_log.specs.declared.entry.Entry.{Entry}
 use Rattle.df_core.specs.Courses.{Course, Nowhere, Alone, Spread, Counts, Cuts, Clears, course_of}
 use Rattle.df_core.specs.Courses as courses
-use Rattle.df_core.specs.Steps.{Step, step_of, steps_of}
+use Rattle.df_core.specs.Steps.{Step, steps_of}
 use Rattle.df_core.specs.Due.{every, of_command, all_below, none_behind, may_end_by, due_by, due_from, due}
 use Rattle.df_core.specs.Done.{Done, DoneAll, Gives, want_of_memory}
 use Rattle.df_core.proofs.HopLaws.{all_pass, Of, of_itself, of_other, of_append, of_before, done_of, all_from}

@@ -1,18 +1,15 @@
 -- A round from its first message to its last answer.
 use Rattle.std.proofs.Common.{◌≡◌, ℕ, zero, suc, ◌+◌, ◌<◌, ◌≤◌, Bool, true, false, cond, not, is_some, List, [], ◌∷◌, ◌++◌, inl, inr, refl, sym, ap, ◌∙◌, subst, arith, append-nil, append_assoc}
 use Rattle.std.specs.Prelude.{Option, Some, None, if◌then◌else◌}
-use Rattle.std.proofs.lemmas.Bool.{false≢true, lt-ltb}
+use Rattle.std.proofs.lemmas.Bool.{lt-ltb}
 use Rattle.std.proofs.lemmas.Bool.Decides.{eqb_tells}
-use Rattle.df_model.specs.Keyspace.{Keyspace}
 use Rattle.df_model.specs.declared.command.Command.{Command}
 use Rattle.df_order.specs.Lists.{Has}
 use Rattle.df_order.specs.Puts.{put}
 use Rattle.df_order.proofs.Lists.{only_has}
 use Rattle.df_order.proofs.Puts.{put_case, put_same, put_other}
 use Rattle.df_order.proofs.Commute.{own_has}
-use Rattle.df_log.specs.Acts.{Act, Run, Read, Stage, Apply, Unstage, Begin, Walk, Count, Clear, Told}
-use Rattle.df_log.specs.Acts as acts
-use Rattle.df_log.specs.Parts.{may_want, IsTold}
+use Rattle.df_log.specs.Acts.{Act, Told}
 use Rattle.df_log.specs.Entries.{is_note, acts_of}
 use Rattle.df_log.specs.declared.entry.Entry.{Entry}
 use Rattle.df_core.specs.Courses.{course_of}

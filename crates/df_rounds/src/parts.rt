@@ -17,6 +17,7 @@ use df_book::{Book, CallerPass, Receipt, Ticket};
 use df_model::Call;
 
 /// Draws a number for the call, which then stands at its first command, on any number of shards.
+#[tactic(auto, using(crate::proofs::BetweenLaws::calls_are_drawn))]
 pub fn draw_call(book: &Book, pass: &mut CallerPass, call: &Call) -> u64
     requires book { pass.old.book ≡ book.now }
     requires caller { (pass.old.first ≡ 0) × (0 < pass.old.budget) }
@@ -34,6 +35,7 @@ pub fn draw_call(book: &Book, pass: &mut CallerPass, call: &Call) -> u64
 }
 
 /// A running ticket of the last number drawn, for a shard that wasn't sent one in this round.
+#[tactic(auto, using(crate::proofs::UnderwayLaws::rounds_send))]
 pub fn ticket_for(book: &Book, pass: &mut CallerPass) -> Ticket
     requires book { pass.old.book ≡ book.now }
     requires drawn { 0 < length pass.old.own }
@@ -47,6 +49,7 @@ pub fn ticket_for(book: &Book, pass: &mut CallerPass) -> Ticket
 
 /// Takes the receipt of an answer. It may show an entry of the call; else the round, or what the call keeps between two
 /// rounds, stays as it was.
+#[tactic(auto, using(crate::proofs::UnderwayLaws::rounds_take, crate::proofs::UnderwayLaws::rounds_see, crate::proofs::BetweenLaws::calls_see))]
 pub fn take_answer(book: &Book, pass: &mut CallerPass, receipt: Receipt)
     requires book { (pass.old.book ≡ book.now) × (receipt.book ≡ pass.old.book) }
     ensures seen { (pass.new ≡ after_receipt pass.old receipt pass.new.seen) × BothSeen pass.old.seen receipt.seen pass.new.seen }
