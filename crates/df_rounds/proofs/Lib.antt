@@ -5,4 +5,5 @@ pub mod ProgressLaws
 pub mod UnderwayLaws
 pub mod BetweenLaws
 pub mod AgreeLaws
+mod RoundExamples
 mod FlushExample
