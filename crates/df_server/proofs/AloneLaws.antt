@@ -19,7 +19,7 @@ use Rattle.df_sessions.proofs.ListLaws.{all_push}
 use Rattle.df_server.specs.Promise.{IsNumbered}
 use Rattle.df_server.specs.Alone.{RanAlone, PipeHolds, ServedAlone}
 
-pub holds_first : (flow : Flow) (K : Keyspace) (s : Sitting) → Sits s 0 flow → is_some flow.left ≡ true → K ≡ no_keys → PipeHolds s.first K s
+pub holds_first : (flow : Flow) (K : Keyspace) (s : Sitting) → Sits s 0 flow false → is_some flow.left ≡ true → K ≡ no_keys → PipeHolds s.first K s
 holds_first flow K s sits limited keys = record {
   id = sits.id_is;
   first_is = refl;
