@@ -4,4 +4,6 @@
 #[cfg(test)]
 mod cursor;
 #[cfg(test)]
+mod loader;
+#[cfg(test)]
 mod writer;

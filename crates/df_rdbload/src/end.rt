@@ -1,0 +1,43 @@
+//! A file's end: the sum of what stands before it, and nothing behind.
+
+ghost use Rattle.df_rdbload.specs.Sources.{Reads};
+ghost use Rattle.df_rdbload.specs.Entries.{AreEight, EightStop, Ended};
+
+use crate::source::Source;
+use df_outside::Disk;
+use df_rdbcore::{LoadFault, PartFault};
+
+/// Takes the sum, behind FF, and sees that nothing follows. A sum of 0 says that none was made.
+pub fn end<K: Disk>(disk: &mut K, source: &mut Source) -> Result<(), LoadFault>
+    ensures { Ended result (K.stored disk.old) (K.stored disk.new) (K.faults disk.old) (K.faults disk.new) source.old source.new }
+{
+    let computed = source.sum();
+    let at = source.place();
+    let stored = u64::from_le_bytes(sum_bytes(disk, source)?);
+    if stored != 0 && stored != computed {
+        return Err(LoadFault::BadChecksum {
+            stored,
+            computed,
+            at,
+        });
+    }
+    let after = source.place();
+    if !source.is_at_end(disk)? {
+        return Err(LoadFault::BadPart {
+            kind: PartFault::After,
+            at: after,
+        });
+    }
+    Ok(())
+}
+
+/// Takes eight bytes.
+fn sum_bytes<K: Disk>(disk: &mut K, source: &mut Source) -> Result<[u8; 8], LoadFault>
+    ensures { Reads AreEight EightStop result (K.stored disk.old) (K.stored disk.new) (K.faults disk.old) (K.faults disk.new) source.old source.new }
+{
+    let mut bytes = [0; 8];
+    'bytes: for at in 0..8 {
+        bytes[at] = source.byte(disk)?;
+    }
+    Ok(bytes)
+}
