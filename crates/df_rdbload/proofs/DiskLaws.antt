@@ -2,13 +2,13 @@
 use Rattle.std.proofs.Common.{◌≡◌, ℕ, zero, suc, ◌+◌, ◌-◌, ◌^◌, ◌<◌, ◌≤◌, inl, inr, Bool, true, false, cond, [], ◌∷◌, ◌++◌, length, take, drop, refl, sym, ap, subst, ◌∙◌, arith, append_assoc, append-nil, length-append}
 use Rattle.std.specs.Prelude.{Option, Some, None, Result, Ok, Err, ◌⊎◌}
 use Rattle.std.proofs.lemmas.Grind.{common_steps}
-use Rattle.std.proofs.lemmas.List.{drop-drop}
+use Rattle.std.proofs.lemmas.List.{drop-drop, length-take}
 use Rattle.df_model.specs.Values.{Bytes}
 use Rattle.df_outside.specs.Disks.{Stored, Told, Holds, IsPast}
 use Rattle.df_rdbcore.specs.Reading.{Stand, place_of}
 use Rattle.df_rdbcore.specs.declared.fault.LoadFault.{LoadFault}
 use Rattle.df_rdbcore.specs.declared.fault.LoadFault.TheVariants as faults
-use Rattle.df_rdbload.specs.Sources.{Stage, IsAt, HasFile, HasNone, HasSome, WhereTold, IsBeyond, HasCause, Goes, Halts, room, reads_left, Grows, Stays, KeepFails, IsTooMuch, ReadsOn, Reading}
+use Rattle.df_rdbload.specs.Sources.{Stage, IsAt, HasFile, HasNone, HasSome, WhereTold, IsBeyond, StillCounts, HasCause, Goes, Halts, room, reads_left, Grows, Stays, KeepFails, IsTooMuch, ReadsOn, Reading}
 use Rattle.df_rdbload.proofs.Steps.{kept_none, goes_none}
 
 -- ---- what the disk tells
@@ -65,6 +65,19 @@ too_much (faults.BadPart kind at) s next piece h f = absurd f
 too_much (faults.Duplicate kind at) s next piece h f = absurd f
 too_much (faults.BadChecksum stored computed at) s next piece h f = absurd f
 
+too_much_on : (fault : LoadFault) (s t : Option Stored) → Told s t (λ a b. b ≡ a) → IsTooMuch fault s → IsTooMuch fault t
+too_much_on (faults.Truncated at) s t kept f = where_on (λ o. (bytes : Bytes) × (o ≡ Some bytes) × IsBeyond bytes) s t kept f
+too_much_on faults.NoMemory s t kept f = tt
+too_much_on (faults.ReadFault at) s t kept f = tt
+too_much_on faults.BadMagic s t kept f = absurd f
+too_much_on faults.BadVersion s t kept f = absurd f
+too_much_on (faults.BadLength at) s t kept f = absurd f
+too_much_on (faults.Unsupported code at) s t kept f = absurd f
+too_much_on (faults.UnknownType code at) s t kept f = absurd f
+too_much_on (faults.BadPart kind at) s t kept f = absurd f
+too_much_on (faults.Duplicate kind at) s t kept f = absurd f
+too_much_on (faults.BadChecksum sum computed at) s t kept f = absurd f
+
 -- a fault of `keep` is none of the disk
 pub keep_caused : (fault : LoadFault) (n m next : ℕ) → KeepFails fault next → HasCause fault n m
 keep_caused (faults.Truncated at) n m next f = tt
@@ -98,10 +111,10 @@ left_on piece file rest rest' next next' holds e n =
     ap (λ z. z ++ drop (next + length piece) file) holds.1 ∙ ap (λ z. take (length piece) (drop next file) ++ z) (sym (drop-drop (length piece) next file)) ∙ take_drop (length piece) (drop next file) in
     ap (λ z. z ++ drop next' file) e ∙ ap (λ k. (rest ++ piece) ++ drop k file) n ∙ append_assoc rest piece (drop (next + length piece) file) ∙ ap (λ z. rest ++ z) seam
 
-false_true : {A : Type 0} (b : Bool) → b ≡ false → b ≡ true → A
+pub false_true : {A : Type 0} (b : Bool) → b ≡ false → b ≡ true → A
 false_true b p q = cc
 
-pub more_kept : (piece : Bytes) (s t : Option Stored) (n m : ℕ) (old new : Stage) → Told s t (λ a b. b ≡ a) → n ≤ m → old.ended ≡ false → new.ended ≡ old.ended → new.missing ≡ old.missing
+pub more_kept : (piece : Bytes) (s t : Option Stored) (n m : ℕ) (old new : Stage) → Told s t (λ a b. b ≡ a) → StillCounts n m → old.ended ≡ false → new.ended ≡ old.ended → new.missing ≡ old.missing
     → Grows piece s old.cursor new.cursor old.next new.next → Reading (Ok true) s t n m old new
 more_kept piece s t n m old new kept rises going ended missing g = record {
   goes = record { kept = kept; rises = rises; runs = less; missing = λ e. inl (sym missing ∙ e) };
@@ -139,7 +152,7 @@ ended_at file taken ahead old new rest place sum next fits past at =
 same_room : (old new : Stage) → new.cursor.rest ≡ old.cursor.rest → new.next ≡ old.next → room new ≤ room old
 same_room old new e n = let long = ap length e in omega (arith, long, n)
 
-pub more_end : (s t : Option Stored) (n m : ℕ) (old new : Stage) → Told s t (λ a b. b ≡ a) → n ≤ m → new.missing ≡ old.missing → new.next < 2 ^ 64
+pub more_end : (s t : Option Stored) (n m : ℕ) (old new : Stage) → Told s t (λ a b. b ≡ a) → StillCounts n m → new.missing ≡ old.missing → new.next < 2 ^ 64
     → Stays old.cursor new.cursor old.next new.next → WhereTold (λ o. IsPast o old.next) s → Reading (Ok false) s t n m old new
 more_end s t n m old new kept rises missing fits g past = record {
   goes = record { kept = kept; rises = rises; runs = same_room old new g.rest g.next_is; missing = λ e. inl (sym missing ∙ e) };
@@ -154,7 +167,7 @@ more_end s t n m old new kept rises missing fits g past = record {
 no_file : (file : Bytes) → Some file ≡ None → ⊥
 no_file file e = cc
 
-pub more_missing : (s t : Option Stored) (n m : ℕ) (old new : Stage) → Told s t (λ a b. b ≡ a) → n ≤ m → new.missing ≡ true
+pub more_missing : (s t : Option Stored) (n m : ℕ) (old new : Stage) → Told s t (λ a b. b ≡ a) → StillCounts n m → new.missing ≡ true
     → Stays old.cursor new.cursor old.next new.next → WhereTold (λ o. o ≡ None) s → Reading (Ok false) s t n m old new
 more_missing s t n m old new kept rises missing g none = record {
   goes = record { kept = kept; rises = rises; runs = same_room old new g.rest g.next_is; missing = λ e. inr (where_on (λ o. o ≡ None) s t kept none) };
@@ -191,12 +204,28 @@ fails_at (faults.BadPart kind at) s file has f = absurd f
 fails_at (faults.Duplicate kind at) s file has f = absurd f
 fails_at (faults.BadChecksum stored computed at) s file has f = absurd f
 
-pub more_fails : (fault : LoadFault) (s t : Option Stored) (n m : ℕ) (old new : Stage) → Told s t (λ a b. b ≡ a) → n ≤ m → HasCause fault n m → new.missing ≡ old.missing
+pub more_fails : (fault : LoadFault) (s t : Option Stored) (n m : ℕ) (old new : Stage) → Told s t (λ a b. b ≡ a) → StillCounts n m → HasCause fault n m → new.missing ≡ old.missing
     → Stays old.cursor new.cursor old.next new.next → IsTooMuch fault s → Reading (Err fault) s t n m old new
 more_fails fault s t n m old new kept rises caused missing g f = record {
   goes = record { kept = kept; rises = rises; runs = same_room old new g.rest g.next_is; missing = λ e. inl (sym missing ∙ e) };
   caused = caused;
   left = tt;
-  finds = tt;
+  finds = too_much_on fault s t kept f;
   tells = λ file taken ahead has at. fails_at fault s file has f;
 }
+
+-- ---- a read of the disk
+
+abbrev pub file_none : Option Bytes → Type 0
+file_none o = o ≡ None
+
+pub stays_none : (s : Stand) (next : ℕ) → Stays s s next next
+stays_none s next = record { rest = refl; place = refl; sum = refl; next_is = refl }
+
+pub grows : (n : ℕ) (buf : Bytes) (s t : Option Stored) (old new : Stand) (next next' : ℕ) → 0 < n → n ≤ length buf → Told s t (λ a b. (b ≡ a) × Holds a.file next (take n buf))
+    → new.rest ≡ old.rest ++ take n buf → new.place ≡ old.place → new.sum ≡ old.sum → next' ≡ next + length (take n buf) → next' < 2 ^ 64 → (piece : Bytes) × Grows piece s old new next next'
+grows n buf s t old new next next' some within told rest place sum next_is fits =
+    let long = length-take n buf in (
+      take n buf,
+      record { some = omega (arith, long); there = told_where (λ o. Holds o next (take n buf)) s t told; rest = rest; place = place; sum = sum; next_is = next_is; fits = fits },
+    )

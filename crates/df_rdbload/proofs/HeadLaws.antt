@@ -51,7 +51,7 @@ IsFront text form i = form ≡ take i text
 take_drop : (n : ℕ) (bytes : Bytes) → take n bytes ++ drop n bytes ≡ bytes
 take_drop n bytes = grind (arith, common_steps)
 
-take_whole : (n : ℕ) (bytes : Bytes) → length bytes ≤ n → take n bytes ≡ bytes
+pub take_whole : (n : ℕ) (bytes : Bytes) → length bytes ≤ n → take n bytes ≡ bytes
 take_whole zero [] h = refl
 take_whole zero (b ∷ bytes) h = absurd (omega arith)
 take_whole (suc n) [] h = refl
@@ -96,7 +96,7 @@ pub zeros_stop : (size at : ℕ) (rest : Bytes) (fault : LoadFault) → LiteralS
 zeros_stop size at rest fault h = (5, five, agrees_longer zeros (48 ∷ 53 ∷ []) rest h.1 h.0, let short = h.1 in omega arith, h.2)
 
 pub zeros_other : (form : Bytes) → IsLiteral zeros form false → VersionRead form false
-zeros_other form no version is a = no (agrees_front zeros ((48 + version / 10) ∷ (48 + version % 10) ∷ []) form a)
+zeros_other form isnt version is a = isnt (agrees_front zeros ((48 + version / 10) ∷ (48 + version % 10) ∷ []) form a)
 
 abbrev pub AreTens : ℕ → Bytes → ℕ → Type 0
 AreTens tens form u = form ≡ 48 ∷ 48 ∷ tens ∷ []
@@ -138,9 +138,9 @@ ones_stop tens old which size at rest form behind fault place p whole h =
 
 pub version_read : (tens ones : ℕ) (read : Bool) (form more : Bytes) → IsLast tens ones read → AreTens tens form tens → IsByte more ones → VersionRead (form ++ more) read
 version_read tens ones true form more (version, is, p, q) f m = (version, is, ap (λ z. z ++ more) f ∙ ap (λ z. 48 ∷ 48 ∷ tens ∷ z) m ∙ ap (λ z. 48 ∷ 48 ∷ z ∷ ones ∷ []) p ∙ ap (λ z. 48 ∷ 48 ∷ (48 + version / 10) ∷ z ∷ []) q)
-version_read tens ones false form more no f m version is a =
+version_read tens ones false form more isnt f m version is a =
     let there : Agrees (digits version) (48 ∷ 48 ∷ tens ∷ ones ∷ []) = subst (Agrees (digits version)) (ap (λ z. z ++ more) f ∙ ap (λ z. 48 ∷ 48 ∷ tens ∷ z) m) a in
-    no version is (sym there.1.1.0) (sym there.1.1.1.0)
+    isnt version is (sym there.1.1.0) (sym there.1.1.1.0)
 
 -- ---- magic and version
 
@@ -151,7 +151,7 @@ pub magic_stops : (size at : ℕ) (rest : Bytes) (fault : LoadFault) → Literal
 magic_stops size at rest fault h = HeadStops.Cut 5 five (agrees_longer magic (digits 5) rest h.1 h.0) (let short = h.1 in omega arith) h.2
 
 pub magic_other : (size at : ℕ) (rest form behind : Bytes) → IsLiteral magic form false → rest ≡ form ++ behind → HeadStops size at rest faults.BadMagic
-magic_other size at rest form behind no whole = HeadStops.Magic (λ a. no (agrees_shorter magic form behind (subst (Agrees magic) whole a))) refl
+magic_other size at rest form behind isnt whole = HeadStops.Magic (λ a. isnt (agrees_shorter magic form behind (subst (Agrees magic) whole a))) refl
 
 pub version_stops : (old : Stage) → Lifts (IsLiteral magic) true VersionStops HeadStops old
 version_stops old size at rest form behind fault place p whole h =
@@ -162,10 +162,10 @@ version_stops old size at rest form behind fault place p whole h =
     HeadStops.Cut h.0 h.1 (subst (Agrees (head h.0)) (sym all) (agrees_within magic (digits h.0) behind h.2)) (omega (arith, long, both, short)) h.4
 
 pub version_other : (size at : ℕ) (rest form behind : Bytes) → form ≡ magic → (more after : Bytes) → VersionRead more false → behind ≡ more ++ after → rest ≡ form ++ behind → HeadStops size at rest faults.BadVersion
-version_other size at rest form behind p more after no e whole =
+version_other size at rest form behind p more after isnt e whole =
     let all : rest ≡ magic ++ behind = whole ∙ ap (λ z. z ++ behind) p in
     HeadStops.Version (subst (Agrees magic) (sym all) (agrees_shorter_not magic behind))
-    (λ version is a. no version is (agrees_shorter (digits version) more after (subst (Agrees (digits version)) e (agrees_behind magic (digits version) behind (subst (Agrees (head version)) all a))))) refl
+    (λ version is a. isnt version is (agrees_shorter (digits version) more after (subst (Agrees (digits version)) e (agrees_behind magic (digits version) behind (subst (Agrees (head version)) all a))))) refl
   where
     agrees_shorter_not : (text more : Bytes) → Agrees text (text ++ more)
     agrees_shorter_not [] more = tt

@@ -35,8 +35,8 @@ all_push Q [] x all q = (q, tt)
 all_push Q (y ∷ xs) x all q = (all.0, all_push Q xs x all.1 q)
 
 pub once_push : (xs : List Bytes) (x : Bytes) → NoneTwice xs → (IsIn x xs → ⊥) → NoneTwice (xs ++ x ∷ [])
-once_push [] x once no = (tt, tt)
-once_push (y ∷ xs) x once no = (all_push (λ z. y ≢ z) xs x once.0 (λ e. no (inl (sym e))), once_push xs x once.1 (λ h. no (inr h)))
+once_push [] x once isnt = (tt, tt)
+once_push (y ∷ xs) x once isnt = (all_push (λ z. y ≢ z) xs x once.0 (λ e. isnt (inl (sym e))), once_push xs x once.1 (λ h. isnt (inr h)))
 
 pub firsts_push : {X : Type 0} (es : List (Bytes × X)) (e : Bytes × X) → firsts (es ++ e ∷ []) ≡ firsts es ++ e.0 ∷ []
 firsts_push [] e = refl
@@ -89,16 +89,16 @@ module _ {X : Type 0} where
 
 -- ---- sets and hashes
 
-marked : List Bytes → List (Bytes × Unit {0})
+abbrev marked : List Bytes → List (Bytes × Unit {0})
 marked texts = map (λ text. (text, tt)) texts
 
-firsts_marked : (texts : List Bytes) → firsts (map (λ text. (text, tt)) texts) ≡ texts
+firsts_marked : (texts : List Bytes) → firsts (marked texts) ≡ texts
 firsts_marked [] = refl
 firsts_marked (t ∷ texts) = ap (λ z. t ∷ z) (firsts_marked texts)
 
-marked_push : (texts : List Bytes) (t : Bytes) → map (λ text. (text, tt)) (texts ++ t ∷ []) ≡ map (λ text. (text, tt)) texts ++ (t, tt) ∷ []
+marked_push : (texts : List Bytes) (t : Bytes) → marked (texts ++ t ∷ []) ≡ marked texts ++ (t, tt) ∷ []
 marked_push [] t = refl
-marked_push (u ∷ texts) t = ap (λ z. (u, tt) ∷ z) (marked_push texts t)
+marked_push (u ∷ texts) t = let first : Bytes × Unit {0} = (u, tt) in ap (λ z. first ∷ z) (marked_push texts t)
 
 not_false : (b : Bool) → not b ≡ false → b ≡ true
 not_false true e = refl
@@ -108,18 +108,18 @@ not_true : (b : Bool) → not b ≡ true → b ≡ false
 not_true true e = cc
 not_true false e = refl
 
-set_find : (texts : List Bytes) (t : Bytes) → members.contains (members_of texts) t ≡ is_some (find (slice_cmp nat_cmp) t (map (λ text. (text, tt)) texts))
-set_find texts t = ap is_some (get-from_entries nat_list_cmp_total (map (λ text. (text, tt)) texts) t)
+set_find : (texts : List Bytes) (t : Bytes) → members.contains (members_of texts) t ≡ is_some (find (slice_cmp nat_cmp) t (marked texts))
+set_find texts t = ap is_some (get-from_entries nat_list_cmp_total (marked texts) t)
 
 pub member_again : (texts : List Bytes) (t : Bytes) → not (members.contains (members_of texts) t) ≡ false → IsIn t texts
-member_again texts t e = subst (IsIn t) (firsts_marked texts) (found_in (map (λ text. (text, tt)) texts) t (sym (set_find texts t) ∙ not_false _ e))
+member_again texts t e = subst (IsIn t) (firsts_marked texts) (found_in (marked texts) t (sym (set_find texts t) ∙ not_false _ e))
 
 pub member_new : (texts : List Bytes) (t : Bytes) → not (members.contains (members_of texts) t) ≡ true → IsIn t texts → ⊥
-member_new texts t e h = not_found (map (λ text. (text, tt)) texts) t (sym (set_find texts t) ∙ not_true _ e) (subst (IsIn t) (sym (firsts_marked texts)) h)
+member_new texts t e h = not_found (marked texts) t (sym (set_find texts t) ∙ not_true _ e) (subst (IsIn t) (sym (firsts_marked texts)) h)
 
 pub member_pushed : (texts : List Bytes) (t : Bytes) → not (members.contains (members_of texts) t) ≡ true → members.insert (members_of texts) t ≡ members_of (texts ++ t ∷ [])
 member_pushed texts t e =
-    sym (pushed (map (λ text. (text, tt)) texts) t tt (sym (set_find texts t) ∙ not_true _ e)) ∙ sym (ap (from_entries {R = slice_cmp nat_cmp}) (marked_push texts t))
+    sym (pushed (marked texts) t tt (sym (set_find texts t) ∙ not_true _ e)) ∙ sym (ap (from_entries {R = slice_cmp nat_cmp}) (marked_push texts t))
 
 hash_find : (pairs : List Pair) (k : Bytes) → is_some (fin.get (fields_of pairs) k) ≡ is_some (find (slice_cmp nat_cmp) k pairs)
 hash_find pairs k = ap is_some (get-from_entries nat_list_cmp_total pairs k)

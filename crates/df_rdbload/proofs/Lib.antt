@@ -4,3 +4,6 @@ pub mod DiskLaws
 pub mod KeyLaws
 pub mod PartLaws
 pub mod HeadLaws
+pub mod ValueLaws
+pub mod LoadLaws
+pub mod EndLaws

@@ -1,10 +1,11 @@
 -- Parts one after another, and the whole of a file.
-use Rattle.std.proofs.Common.{◌≡◌, ◌≢◌, ℕ, ◌+◌, ◌<◌, ◌≤◌, inl, inr, Bool, true, false, List, [], ◌∷◌, ◌++◌, length, refl, sym, ap, subst, ◌∙◌, arith, append_assoc, append-nil, length-append}
+use Rattle.std.proofs.Common.{◌≡◌, ◌≢◌, ℕ, ◌+◌, ◌<◌, ◌≤◌, inl, inr, Bool, true, false, List, [], ◌∷◌, ◌++◌, map, length, refl, sym, ap, subst, ◌∙◌, arith, append_assoc, append-nil, length-append}
 use Rattle.std.specs.Prelude.{Option, Some, None, Result, Ok, Err, ◌⊎◌}
 use Rattle.std.specs.Int.{w64, to_le_bytes}
 use Rattle.std.specs.HashMap.{HashMap}
 use Rattle.df_model.specs.Values.{Bytes}
 use Rattle.df_outside.specs.Disks.{Stored, Told}
+use Rattle.df_values.specs.Seen.{seen}
 use Rattle.df_values.specs.declared.value.Value.{Value}
 use Rattle.df_rdbcore.specs.Crc.{crc}
 use Rattle.df_rdbcore.specs.Reading.{place_of}
@@ -34,52 +35,55 @@ grown_by es fs body form (Some entry) g part adds = record {
   keys_are = ap keyspace_of (added_some g.parts entry) ∙ adds.1;
 }
 
+abbrev entries_in : List (Bytes × Value) → List Entry
+entries_in es = map (λ e. (e.0, seen e.1)) es
+
 module _ {s t : Option Stored} {n m : ℕ} {old middle : Stage} (es : List (Bytes × Value)) (so_far : Reads IsGathered Never (Ok es) s t n m old middle) where
-  pub part_on : {u : Option Stored} {k : ℕ} {new : Stage} (fs : List (Bytes × Value)) → Goes t u m k middle new
-      → ((read : List Entry) → keyspace_of read ≡ keyspace_in es → Tells (PartRead read fs) (PartStops (firsts read)) (Ok true) t middle new) → Reads IsGathered Never (Ok fs) s u n k old new
-  part_on {new = new} fs goes tells = record {
-    goes = goes_on so_far.goes goes;
+  pub part_on : {u : Option Stored} {k : ℕ} {new : Stage} (fs : List (Bytes × Value))
+      → ((read : List Entry) → keyspace_of read ≡ keyspace_in es → Reads (PartRead read fs) (PartStops (firsts read)) (Ok true) t u m k middle new) → Reads IsGathered Never (Ok fs) s u n k old new
+  part_on {new = new} fs reads = record {
+    goes = goes_on so_far.goes (reads (entries_in es) refl).goes;
     caused = tt;
     tells = record {
       is = λ file taken ahead has at.
         let w : Whole IsGathered es file taken ahead middle = so_far.tells.is file taken ahead has at in
         let g : Gathers es w.form = w.form_is in
         let v : Whole (PartRead (added g.parts) fs) true file (taken ++ w.form) w.behind new =
-        (tells (added g.parts) g.keys_are).is file (taken ++ w.form) w.behind (file_on s t file so_far.goes.kept has) w.at in
+        (reads (added g.parts) g.keys_are).tells.is file (taken ++ w.form) w.behind (file_on s t file so_far.goes.kept has) w.at in
         let p = v.form_is in
         whole_join IsGathered fs w v (grown_by es fs w.form v.form p.0 g p.1 p.2);
     };
   }
 
-  pub parts_end : {S : Type 0} {u : Option Stored} {k : ℕ} {new : Stage} (keys : HashMap Bytes Value S) → Goes t u m k middle new
-      → ((read : List Entry) → keyspace_of read ≡ keyspace_in es → Tells (PartRead read keys.entries) (PartStops (firsts read)) (Ok false) t middle new) → Reads (BodyRead {S = S}) BodyStops (Ok keys) s u n k old new
-  parts_end {S = S} {new = new} keys goes tells = record {
-    goes = goes_on so_far.goes goes;
+  pub parts_end : {S : Type 0} {u : Option Stored} {k : ℕ} {new : Stage} (keys : HashMap Bytes Value S)
+      → ((read : List Entry) → keyspace_of read ≡ keyspace_in es → Reads (PartRead read keys.entries) (PartStops (firsts read)) (Ok false) t u m k middle new) → Reads (BodyRead {S = S}) BodyStops (Ok keys) s u n k old new
+  parts_end {S = S} {new = new} keys reads = record {
+    goes = goes_on so_far.goes (reads (entries_in es) refl).goes;
     caused = tt;
     tells = record {
       is = λ file taken ahead has at.
         let w : Whole IsGathered es file taken ahead middle = so_far.tells.is file taken ahead has at in
         let g : Gathers es w.form = w.form_is in
         let v : Whole (PartRead (added g.parts) keys.entries) false file (taken ++ w.form) w.behind new =
-        (tells (added g.parts) g.keys_are).is file (taken ++ w.form) w.behind (file_on s t file so_far.goes.kept has) w.at in
+        (reads (added g.parts) g.keys_are).tells.is file (taken ++ w.form) w.behind (file_on s t file so_far.goes.kept has) w.at in
         let p = v.form_is in
         let all : Gathers keys.entries w.form = record { parts = g.parts; parts_are = g.parts_are; once = g.once; keys_are = p.1 } in
         whole_join (BodyRead {S = S}) keys w v (w.form, all, ap (λ z. w.form ++ z) p.0);
     };
   }
 
-  pub parts_stop : {S : Type 0} {u : Option Stored} {k : ℕ} {new : Stage} (fs : List (Bytes × Value)) (fault : LoadFault) (r : Result (HashMap Bytes Value S) LoadFault) → r ≡ Err fault → Goes t u m k middle new → HasCause fault m k
-      → ((read : List Entry) → keyspace_of read ≡ keyspace_in es → Tells (PartRead read fs) (PartStops (firsts read)) (Err fault) t middle new) → Reads (BodyRead {S = S}) BodyStops r s u n k old new
-  parts_stop {S = S} {u = u} {k = k} {new = new} fs fault r is goes caused tells = subst (λ x. Reads (BodyRead {S = S}) BodyStops x s u n k old new) (sym is) (record {
-    goes = goes_on so_far.goes goes;
-    caused = cause_on fault n m k so_far.goes.rises caused;
+  pub parts_stop : {S : Type 0} {u : Option Stored} {k : ℕ} {new : Stage} (fs : List (Bytes × Value)) (fault : LoadFault) (r : Result (HashMap Bytes Value S) LoadFault) → r ≡ Err fault
+      → ((read : List Entry) → keyspace_of read ≡ keyspace_in es → Reads (PartRead read fs) (PartStops (firsts read)) (Err fault) t u m k middle new) → Reads (BodyRead {S = S}) BodyStops r s u n k old new
+  parts_stop {S = S} {u = u} {k = k} {new = new} fs fault r is reads = subst (λ x. Reads (BodyRead {S = S}) BodyStops x s u n k old new) (sym is) (record {
+    goes = goes_on so_far.goes (reads (entries_in es) refl).goes;
+    caused = cause_on fault n m k so_far.goes.rises (reads (entries_in es) refl).caused;
     tells = record {
       is = λ file taken ahead has at.
         let w : Whole IsGathered es file taken ahead middle = so_far.tells.is file taken ahead has at in
         let g : Gathers es w.form = w.form_is in
         halts_as (PartStops (firsts (added g.parts)) (length file) (length (taken ++ w.form)) w.behind) (BodyStops (length file) (length taken) ahead) file fault
         (λ f h. record { body = w.form; behind = w.behind; parts = g.parts; parts_are = g.parts_are; once = g.once; whole = w.front; stops = subst (λ i. PartStops (firsts (added g.parts)) (length file) i w.behind f) (length-append taken w.form) h })
-        ((tells (added g.parts) g.keys_are).is file (taken ++ w.form) w.behind (file_on s t file so_far.goes.kept has) w.at);
+        ((reads (added g.parts) g.keys_are).tells.is file (taken ++ w.form) w.behind (file_on s t file so_far.goes.kept has) w.at);
     };
   })
 

@@ -13,7 +13,7 @@ use Rattle.df_rdbcore.proofs.CrcLaws.{crc_append}
 use Rattle.df_rdbcore.specs.declared.fault.LoadFault.{LoadFault}
 use Rattle.df_rdbcore.specs.declared.fault.LoadFault.TheVariants as faults
 use Rattle.df_rdbload.specs.Stops.{Stops, Ends, LengthStops, TextStops}
-use Rattle.df_rdbload.specs.Sources.{Stage, IsAt, HasFile, HasCause, IsCaused, Goes, Whole, Halts, Tells, Reads, room, IsByte, ByteStops, SameReading, ReadsOn, HasRest, Reading, EndIs, SeesEnd}
+use Rattle.df_rdbload.specs.Sources.{Stage, IsAt, HasFile, HasCause, IsCaused, Goes, Whole, Halts, Tells, Reads, room, reads_left, IsByte, ByteStops, SameReading, ReadsOn, HasRest, Reading, EndIs, SeesEnd}
 use Rattle.df_rdbload.proofs.Steps.{kept_none, goes_none, goes_on, cause_on, halts_as, halts_in, file_on, whole_none, reads_join, reads_stops, reads_none, Lifts}
 
 -- ---- nothing taken
@@ -98,8 +98,8 @@ bad_place : (at place n : ℕ) → at ≡ place → place ≡ place_of n → fau
 bad_place at place n p q = ap faults.BadLength (p ∙ q)
 
 pub length_stops : (fault : LoadFault) (stage : Stage) (file taken ahead : Bytes) → LengthFault fault stage.cursor → IsAt file taken ahead stage → Halts (LengthStops (length file) (length taken) ahead) file fault
-length_stops (faults.BadLength at) stage file taken ahead (e, no) is =
-    LengthStops.Bad (subst BeginsNoLength is.left (no_length_on stage.cursor.rest (drop stage.next file) no)) (bad_place at stage.cursor.place (length taken) e is.place)
+length_stops (faults.BadLength at) stage file taken ahead (e, bad) is =
+    LengthStops.Bad (subst BeginsNoLength is.left (no_length_on stage.cursor.rest (drop stage.next file) bad)) (bad_place at stage.cursor.place (length taken) e is.place)
 length_stops faults.BadMagic stage file taken ahead h is = absurd h
 length_stops faults.BadVersion stage file taken ahead h is = absurd h
 length_stops (faults.Truncated at) stage file taken ahead h is = absurd h
@@ -112,8 +112,8 @@ length_stops (faults.ReadFault at) stage file taken ahead h is = absurd h
 length_stops faults.NoMemory stage file taken ahead h is = absurd h
 
 pub text_stops : (fault : LoadFault) (stage : Stage) (file taken ahead : Bytes) → TextFault fault stage.cursor → IsAt file taken ahead stage → Halts (TextStops (length file) (length taken) ahead) file fault
-text_stops (faults.BadLength at) stage file taken ahead (e, inl no) is =
-    TextStops.Bad (inl (subst BeginsNoText is.left (no_text_on stage.cursor.rest (drop stage.next file) no))) (bad_place at stage.cursor.place (length taken) e is.place)
+text_stops (faults.BadLength at) stage file taken ahead (e, inl bad) is =
+    TextStops.Bad (inl (subst BeginsNoText is.left (no_text_on stage.cursor.rest (drop stage.next file) bad))) (bad_place at stage.cursor.place (length taken) e is.place)
 text_stops (faults.BadLength at) stage file taken ahead (e, inr long) is =
     TextStops.Bad (inr (subst BeginsTooLong is.left (too_long_on stage.cursor.rest (drop stage.next file) long))) (bad_place at stage.cursor.place (length taken) e is.place)
 text_stops (faults.Unsupported code at) stage file taken ahead (k, e, c) is =
@@ -276,7 +276,7 @@ module _ {s t : Option Stored} {n m : ℕ} {old middle : Stage} (so_far : Reads 
   pub fails_end : {u : Option Stored} {k : ℕ} (fault : LoadFault) (r : Result Bool LoadFault) (here new : Stage) → r ≡ Err fault → here.cursor ≡ middle.cursor → SameReading middle here
       → Reading (Err fault) t u m k here new → SeesEnd r s u n k old new
   fails_end {u} {k} fault r here new is e same f =
-      let all : Reads IsNothing Never (Err {A = Unit {0}} fault) s u n k old new = fails_reading IsNothing Never fault (Err fault) here new refl e same f in
+      let all : Reads IsNothing Never (Err fault) s u n k old new = fails_reading IsNothing Never fault (Err fault) here new refl e same f in
       subst (λ x. SeesEnd x s u n k old new) (sym is) (record { goes = all.goes; caused = all.caused; tells = λ file taken ahead has at. all.tells.is file taken ahead has at })
 
   pub at_end : {u : Option Stored} {k : ℕ} (here new : Stage) → middle.cursor.rest ≡ [] → here.cursor ≡ middle.cursor → SameReading middle here → Reading (Ok false) t u m k here new → SeesEnd (Ok true) s u n k old new
@@ -290,3 +290,9 @@ module _ {s t : Option Stored} {n m : ℕ} {old middle : Stage} (so_far : Reads 
       let rest : new.cursor.rest ≡ [] = r.left.0 ∙ ap (λ (c : Stand). c.rest) e ∙ none in
       w.front ∙ ap (λ z. w.form ++ z) (sym end.1 ∙ rest) ∙ nothing_more w.form [] w.form_is refl;
   }
+
+-- what is left to read falls
+pub less_left : (old here new : Stage) → SameReading old here → reads_left new < reads_left here → reads_left new < reads_left old
+less_left old here new same h =
+    let e : reads_left here ≡ reads_left old = ap (λ k. (2 ^ 64 - k) + cond here.ended 0 1) same.next ∙ ap (λ b. (2 ^ 64 - old.next) + cond b 0 1) same.ended in
+    subst (λ k. reads_left new < k) e h

@@ -1,13 +1,15 @@
 -- One call after another: what both of them came to.
 use Rattle.std.proofs.Common.{◌≡◌, ℕ, ◌+◌, ◌<◌, ◌≤◌, inl, inr, true, [], ◌++◌, length, refl, sym, ap, subst, ◌∙◌, arith, append_assoc, append-nil, length-append}
 use Rattle.std.specs.Prelude.{Option, Some, None, Result, Ok, Err, ◌⊎◌}
+use Rattle.std.specs.Result.{IsErrAnd}
+use Rattle.std.proofs.lemmas.Result.{err_from_is_err_and}
 use Rattle.df_model.specs.Values.{Bytes}
 use Rattle.df_outside.specs.Disks.{Stored, Told}
 use Rattle.df_rdbcore.specs.Reading.{place_of}
 use Rattle.df_rdbcore.specs.declared.fault.LoadFault.{LoadFault}
 use Rattle.df_rdbcore.specs.declared.fault.LoadFault.TheVariants as faults
 use Rattle.df_rdbload.specs.Stops.{Stops}
-use Rattle.df_rdbload.specs.Sources.{Stage, IsAt, HasFile, HasNone, HasCause, IsCaused, Goes, Whole, Halts, Outcome, Tells, Reads}
+use Rattle.df_rdbload.specs.Sources.{Stage, IsAt, HasFile, HasNone, StillCounts, HasCause, IsCaused, Goes, Whole, Halts, Outcome, Tells, Reads}
 
 -- ---- the disk
 
@@ -34,7 +36,7 @@ none_on None (Some y) p h = absurd p
 none_on (Some x) None p h = tt
 none_on (Some x) (Some y) p h = ap (λ (z : Stored). z.file) p ∙ h
 
-pub cause_on : (fault : LoadFault) (before mid now : ℕ) → before ≤ mid → HasCause fault mid now → HasCause fault before now
+pub cause_on : (fault : LoadFault) (before mid now : ℕ) → StillCounts before mid → HasCause fault mid now → HasCause fault before now
 cause_on (faults.ReadFault at) before mid now le h = omega arith
 cause_on faults.BadMagic before mid now le h = tt
 cause_on faults.BadVersion before mid now le h = tt
@@ -90,11 +92,15 @@ halts_in T file (faults.BadPart kind at) h = h
 halts_in T file (faults.Duplicate kind at) h = h
 halts_in T file (faults.BadChecksum stored computed at) h = h
 
+-- what `?` returns
+pub err_is : {A : Type 0} (r : Result A LoadFault) (fault : LoadFault) → IsErrAnd r (λ y. y ≡ fault) → r ≡ Err fault
+err_is r fault h = let p : (y : LoadFault) × (r ≡ Err y) × (y ≡ fault) = err_from_is_err_and r h in p.1 ∙ ap Err p.2
+
 -- ---- forms
 
 pub whole_join : {A B C : Type 0} {P : Bytes → A → Type 0} {Q : Bytes → B → Type 0} {a : A} {b : B} {file taken ahead : Bytes} {middle new : Stage} (R : Bytes → C → Type 0) (c : C)
     (w : Whole P a file taken ahead middle) (v : Whole Q b file (taken ++ w.form) w.behind new) → R (w.form ++ v.form) c → Whole R c file taken ahead new
-whole_join {taken = taken} {file = file} {new = new} R c w v r = record {
+whole_join {file = file} {taken = taken} {new = new} R c w v r = record {
   form = w.form ++ v.form;
   behind = v.behind;
   form_is = r;

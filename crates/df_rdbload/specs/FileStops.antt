@@ -12,7 +12,7 @@ use Rattle.df_rdbcore.specs.declared.fault.LoadFault.{LoadFault}
 use Rattle.df_rdbcore.specs.declared.fault.LoadFault.TheVariants as faults
 use Rattle.df_rdbcore.specs.declared.fault.PartFault.TheVariants as part
 use Rattle.df_rdbcore.specs.declared.fault.Twice.TheVariants as twice
-use Rattle.df_rdbload.specs.Stops.{Ends, LengthStops, TextStops, BothStops, IsIn, Again, ValueStops}
+use Rattle.df_rdbload.specs.Stops.{Ends, LengthStops, TextStops, BothStops, IsIn, Repeats, ValueStops}
 
 -- ---- parts
 
@@ -51,7 +51,7 @@ pub data PassedStops (first begin size at : ℕ) (rest : Bytes) (fault : LoadFau
 -- that was there is told before its value is read
 pub data EntryStops (keys : List Bytes) (kind begin size at : ℕ) (rest : Bytes) (fault : LoadFault) : Type 0 where
   Key : TextStops size at rest fault → EntryStops keys kind begin size at rest fault
-  Again : Again keys rest → fault ≡ faults.Duplicate twice.Key (place_of at) → EntryStops keys kind begin size at rest fault
+  Again : Repeats keys rest → fault ≡ faults.Duplicate twice.Key (place_of at) → EntryStops keys kind begin size at rest fault
   Held : (form behind key : Bytes) → IsText form key → (IsIn key keys → ⊥) → rest ≡ form ++ behind → ValueStops kind begin size (at + length form) behind fault → EntryStops keys kind begin size at rest fault
 
 -- where a part is needed, behind these keys

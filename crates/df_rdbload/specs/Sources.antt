@@ -1,5 +1,5 @@
 -- A file that is read in pieces: how far reading has come, and what a call came to.
-use Rattle.std.specs.Prelude.{◌≡◌, ℕ, ◌+◌, ◌-◌, ◌^◌, ◌<◌, ◌≤◌, ◌⊎◌, Bool, true, false, cond, [], ◌∷◌, ◌++◌, length, drop, Option, Some, None, Result, Ok, Err}
+use Rattle.std.specs.Prelude.{min, ◌≡◌, ℕ, ◌+◌, ◌-◌, ◌^◌, ◌<◌, ◌≤◌, ◌⊎◌, Bool, true, false, cond, [], ◌∷◌, ◌++◌, length, drop, Option, Some, None, Result, Ok, Err}
 use Rattle.df_model.specs.Values.{Bytes}
 use Rattle.df_outside.specs.Disks.{Stored, Told, Holds, IsPast}
 use Rattle.df_outside.specs.Faults.{Rose}
@@ -63,6 +63,10 @@ HasNone stored = WhereTold (λ file. file ≡ None) stored
 abbrev pub IsBeyond : Bytes → Type 0
 IsBeyond file = 2 ^ 64 ≤ length file
 
+-- the disk's count of faults didn't fall, up to its last value
+abbrev pub StillCounts : ℕ → ℕ → Type 0
+StillCounts before now = min before (2 ^ 64 - 1) ≤ now
+
 -- a read fault is one of the disk
 abbrev pub HasCause : LoadFault → ℕ → ℕ → Type 0
 HasCause (faults.ReadFault at) before now = Rose before now
@@ -85,7 +89,7 @@ IsCaused {A} (Err fault) before now = HasCause fault before now
 -- file only where it has none
 pub record Goes (was is : Option Stored) (before now : ℕ) (old new : Stage) : Type 0 where
   pub kept : Told was is (λ a b. b ≡ a)
-  pub rises : before ≤ now
+  pub rises : StillCounts before now
   pub runs : room new ≤ room old
   pub missing : new.missing ≡ true → (old.missing ≡ true) ⊎ HasNone is
 
@@ -209,7 +213,7 @@ HasRest (Err fault) old new = Unit {0}
 -- the first piece says whether there is a file
 abbrev pub Finds : Result Bool LoadFault → Option Stored → Stage → Stage → Type 0
 Finds (Ok more) stored old new = (old.ended ≡ true) ⊎ ((new.missing ≡ true) ⊎ HasSome stored)
-Finds (Err fault) stored old new = Unit {0}
+Finds (Err fault) stored old new = IsTooMuch fault stored
 
 pub record Reading (result : Result Bool LoadFault) (was is : Option Stored) (before now : ℕ) (old new : Stage) : Type 0 where
   pub goes : Goes was is before now old new

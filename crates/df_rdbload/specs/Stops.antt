@@ -61,7 +61,7 @@ IsIn text [] = ⊥
 IsIn text (x ∷ texts) = (text ≡ x) ⊎ IsIn text texts
 
 -- a whole string stands there that was read before
-pub record Again (read : List Bytes) (rest : Bytes) : Type 0 where
+pub record Repeats (read : List Bytes) (rest : Bytes) : Type 0 where
   pub form : Bytes
   pub behind : Bytes
   pub text : Bytes
@@ -76,12 +76,12 @@ ElementStops read = TextStops
 -- where a member is needed: a member that was there makes its part faulty, which begins at this place
 pub data MemberStops (begin : ℕ) (read : List Bytes) (size at : ℕ) (rest : Bytes) (fault : LoadFault) : Type 0 where
   Text : TextStops size at rest fault → MemberStops begin read size at rest fault
-  Again : Again read rest → fault ≡ faults.Duplicate twice.Member begin → MemberStops begin read size at rest fault
+  Again : Repeats read rest → fault ≡ faults.Duplicate twice.Member begin → MemberStops begin read size at rest fault
 
 -- where a field and its value are needed: a field that was there is told before its value is read
 pub data PairStops (begin : ℕ) (read : List Pair) (size at : ℕ) (rest : Bytes) (fault : LoadFault) : Type 0 where
   Field : TextStops size at rest fault → PairStops begin read size at rest fault
-  Again : Again (firsts read) rest → fault ≡ faults.Duplicate twice.Field begin → PairStops begin read size at rest fault
+  Again : Repeats (firsts read) rest → fault ≡ faults.Duplicate twice.Field begin → PairStops begin read size at rest fault
   Held : (form behind field : Bytes) → IsText form field → (IsIn field (firsts read) → ⊥) → rest ≡ form ++ behind → TextStops size (at + length form) behind fault → PairStops begin read size at rest fault
 
 -- a list may have an element twice

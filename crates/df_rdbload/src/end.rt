@@ -13,7 +13,8 @@ pub fn end<K: Disk>(disk: &mut K, source: &mut Source) -> Result<(), LoadFault>
 {
     let computed = source.sum();
     let at = source.place();
-    let stored = u64::from_le_bytes(sum_bytes(disk, source)?);
+    let bytes = sum_bytes(disk, source)?;
+    let stored = u64::from_le_bytes(bytes);
     if stored != 0 && stored != computed {
         return Err(LoadFault::BadChecksum {
             stored,
@@ -22,7 +23,8 @@ pub fn end<K: Disk>(disk: &mut K, source: &mut Source) -> Result<(), LoadFault>
         });
     }
     let after = source.place();
-    if !source.is_at_end(disk)? {
+    let is_end = source.is_at_end(disk)?;
+    if !is_end {
         return Err(LoadFault::BadPart {
             kind: PartFault::After,
             at: after,
@@ -37,7 +39,8 @@ fn sum_bytes<K: Disk>(disk: &mut K, source: &mut Source) -> Result<[u8; 8], Load
 {
     let mut bytes = [0; 8];
     'bytes: for at in 0..8 {
-        bytes[at] = source.byte(disk)?;
+        let byte = source.byte(disk)?;
+        bytes[at] = byte;
     }
     Ok(bytes)
 }

@@ -1,7 +1,8 @@
 //! A whole file: its head, its parts and its end.
 
-ghost use Rattle.std.specs.Prelude.{◌≡◌, ◌≤◌};
+ghost use Rattle.std.specs.Prelude.{◌≡◌};
 ghost use Rattle.df_outside.specs.Disks.{Told};
+ghost use Rattle.df_rdbload.specs.Sources.{StillCounts};
 ghost use Rattle.df_rdbload.specs.Entries.{ReadsFile};
 ghost use Rattle.df_rdbload.specs.Loads.{HasLoaded};
 
@@ -28,7 +29,7 @@ pub enum Loaded {
 /// Reads the disk's file, and answers its keys, or its first fault in reading order.
 pub fn load<K: Disk>(alloc: Global, disk: &mut K) -> Result<Loaded, LoadFault>
     ensures disk { Told (K.stored disk.old) (K.stored disk.new) (λ a b. b ≡ a) }
-    ensures faults { K.faults disk.old ≤ K.faults disk.new }
+    ensures faults { StillCounts (K.faults disk.old) (K.faults disk.new) }
     ensures loaded { HasLoaded result (K.stored disk.new) (K.faults disk.old) (K.faults disk.new) }
 {
     let Ok(mut source) = Source::new(alloc) else {

@@ -13,10 +13,12 @@ use df_rdbcore::LoadFault;
 pub fn head<K: Disk>(disk: &mut K, source: &mut Source) -> Result<(), LoadFault>
     ensures { Reads HeadRead HeadStops result (K.stored disk.old) (K.stored disk.new) (K.faults disk.old) (K.faults disk.new) source.old source.new }
 {
-    if !literal(disk, source, b"REDIS")? {
+    let is_magic = literal(disk, source, b"REDIS")?;
+    if !is_magic {
         return Err(LoadFault::BadMagic);
     }
-    if !version(disk, source)? {
+    let is_version = version(disk, source)?;
+    if !is_version {
         return Err(LoadFault::BadVersion);
     }
     Ok(())
@@ -39,7 +41,8 @@ fn literal<K: Disk>(disk: &mut K, source: &mut Source, text: &[u8]) -> Result<bo
 fn version<K: Disk>(disk: &mut K, source: &mut Source) -> Result<bool, LoadFault>
     ensures { Reads VersionRead VersionStops result (K.stored disk.old) (K.stored disk.new) (K.faults disk.old) (K.faults disk.new) source.old source.new }
 {
-    if !literal(disk, source, b"00")? {
+    let is_zeros = literal(disk, source, b"00")?;
+    if !is_zeros {
         return Ok(false);
     }
     let tens = source.byte(disk)?;

@@ -1,10 +1,11 @@
 //! The parts of a file between its head and its end.
 
-ghost use Rattle.std.specs.Prelude.{◌≡◌, ◌≢◌, ◌<◌, List, OnOk, IsTrue, ◌↔◌, true};
+ghost use Rattle.std.specs.Prelude.{◌≡◌, ◌≢◌, ◌<◌, List, OnOk};
+ghost use Rattle.std.specs.Bool.{OnTrue, OnFalse};
 ghost use Rattle.df_rdbcore.specs.Parts.{Entry, firsts};
 ghost use Rattle.df_rdbcore.specs.Files.{keyspace_of};
-ghost use Rattle.df_rdbload.specs.FileStops.{HoldsKey, IsUnread, DatabaseStops, PassedStops, EntryStops, PartStops};
-ghost use Rattle.df_rdbload.specs.Sources.{room, IsCaused, Goes, Tells, Reads};
+ghost use Rattle.df_rdbload.specs.FileStops.{HoldsKey, DatabaseStops, PassedStops, EntryStops, PartStops};
+ghost use Rattle.df_rdbload.specs.Sources.{room, Reads};
 ghost use Rattle.df_rdbload.specs.Entries.{keyspace_in, PartRead, EntryRead, PassedRead, IsZero, Refuses, BodyRead, BodyStops};
 
 use crate::source::Source;
@@ -32,7 +33,8 @@ pub fn parts<K: Disk>(
 {
     let mut keys = HashMap::new(alloc);
     'parts: loop {
-        if !part(alloc, disk, source, &mut keys)? {
+        let goes_on = part(alloc, disk, source, &mut keys)?;
+        if !goes_on {
             return Ok(keys);
         }
     }
@@ -45,22 +47,31 @@ fn part<K: Disk>(
     source: &mut Source,
     keys: &mut HashMap<Bin, Value>,
 ) -> Result<bool, LoadFault>
-    ensures goes { Goes (K.stored disk.old) (K.stored disk.new) (K.faults disk.old) (K.faults disk.new) source.old source.new }
-    ensures caused { IsCaused result (K.faults disk.old) (K.faults disk.new) }
+    ensures reads { (read : List Entry) → keyspace_of read ≡ keyspace_in keys.old.entries → Reads (PartRead read keys.new.entries) (PartStops (firsts read)) result (K.stored disk.old) (K.stored disk.new) (K.faults disk.old) (K.faults disk.new) source.old source.new }
     ensures takes { OnOk result (room source.new < room source.old) }
-    ensures tells { (read : List Entry) → keyspace_of read ≡ keyspace_in keys.old.entries → Tells (PartRead read keys.new.entries) (PartStops (firsts read)) result (K.stored disk.old) source.old source.new }
 {
     let begin = source.place();
     let first = source.byte(disk)?;
     if first == 0xff {
         return Ok(false);
     }
-    if first <= 2 || first == 4 {
+    if holds_key(first) {
         entry(alloc, disk, source, first, begin, keys)?;
-    } else {
-        passed_over(alloc, disk, source, first, begin)?;
+        return Ok(true);
     }
+    passed_over(alloc, disk, source, first, begin)?;
     Ok(true)
+}
+
+/// Whether a part with this first byte is a key and what it holds.
+fn holds_key(first: u8) -> bool
+    ensures yes { OnTrue result (HoldsKey first) }
+    ensures no { OnFalse result (HoldsKey first → ⊥) }
+{
+    if first == 4 {
+        return true;
+    }
+    first < 3
 }
 
 /// Takes a key and what it holds, behind the part's first byte.
@@ -73,9 +84,7 @@ fn entry<K: Disk>(
     keys: &mut HashMap<Bin, Value>,
 ) -> Result<(), LoadFault>
     requires { HoldsKey kind }
-    ensures goes { Goes (K.stored disk.old) (K.stored disk.new) (K.faults disk.old) (K.faults disk.new) source.old source.new }
-    ensures caused { IsCaused result (K.faults disk.old) (K.faults disk.new) }
-    ensures tells { (read : List Entry) → keyspace_of read ≡ keyspace_in keys.old.entries → Tells (EntryRead kind read keys.new.entries) (EntryStops (firsts read) kind begin) result (K.stored disk.old) source.old source.new }
+    ensures { (read : List Entry) → keyspace_of read ≡ keyspace_in keys.old.entries → Reads (EntryRead kind read keys.new.entries) (EntryStops (firsts read) kind begin) result (K.stored disk.old) (K.stored disk.new) (K.faults disk.old) (K.faults disk.new) source.old source.new }
 {
     let at = source.place();
     let key = source.string(alloc, disk)?;
@@ -85,8 +94,8 @@ fn entry<K: Disk>(
             at,
         });
     }
-    let value = value(alloc, disk, source, kind, begin)?;
-    if keys.insert(key, value).is_err() {
+    let held = value(alloc, disk, source, kind, begin)?;
+    if keys.insert(key, held).is_err() {
         return Err(LoadFault::NoMemory);
     }
     Ok(())
@@ -115,7 +124,8 @@ fn passed_over<K: Disk>(
         return Ok(());
     }
     if first == 0xfe {
-        return database(disk, source, begin);
+        database(disk, source, begin)?;
+        return Ok(());
     }
     Err(refused(first, begin))
 }

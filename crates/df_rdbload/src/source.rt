@@ -3,13 +3,13 @@
 //! A call takes a whole byte, length or string, and reads on until one stands there. What a form begins with is looked
 //! at before the rest of it is read, so that the first fault in reading order is answered.
 
-ghost use Rattle.std.specs.Prelude.{◌≡◌, ◌+◌, ◌^◌, ◌<◌, ◌≤◌, ◌++◌, length, IfOk, IfErr, OnOk, OnErr};
+ghost use Rattle.std.specs.Prelude.{◌≡◌, ◌+◌, ◌^◌, ◌<◌, ◌++◌, length, IfOk, IfErr, OnOk, OnErr};
 ghost use Rattle.df_outside.specs.Disks.{Told};
 ghost use Rattle.df_rdbcore.specs.Texts.{IsLength, IsText};
 ghost use Rattle.df_rdbcore.specs.Reading.{TakesByte, TakesLength, TakesText};
 ghost use Rattle.df_rdbcore.specs.declared.fault.LoadFault.TheVariants.{Truncated};
 ghost use Rattle.df_rdbload.specs.Stops.{LengthStops, TextStops};
-ghost use Rattle.df_rdbload.specs.Sources.{start, room, IsCaused, IsByte, ByteStops, Reads, SameReading, Fetched, KeepFails, Reading, SeesEnd};
+ghost use Rattle.df_rdbload.specs.Sources.{start, room, StillCounts, IsCaused, IsByte, ByteStops, Reads, SameReading, Fetched, KeepFails, Reading, SeesEnd};
 
 use df_model::{Bin, NoMemory};
 use df_outside::{Disk, Had};
@@ -76,7 +76,8 @@ impl Source {
             if let Some(byte) = self.byte_here() {
                 return Ok(byte);
             }
-            if !self.more(disk)? {
+            let goes_on = self.more(disk)?;
+            if !goes_on {
                 return Err(self.too_short());
             }
         }
@@ -90,7 +91,8 @@ impl Source {
             if let Some(n) = self.len_here()? {
                 return Ok(n);
             }
-            if !self.more(disk)? {
+            let goes_on = self.more(disk)?;
+            if !goes_on {
                 return Err(self.too_short());
             }
         }
@@ -104,7 +106,8 @@ impl Source {
             if let Some(text) = self.string_here(alloc)? {
                 return Ok(text);
             }
-            if !self.more(disk)? {
+            let goes_on = self.more(disk)?;
+            if !goes_on {
                 return Err(self.too_short());
             }
         }
@@ -118,7 +121,8 @@ impl Source {
             if let Some(_byte) = self.byte_here() {
                 return Ok(false);
             }
-            if !self.more(disk)? {
+            let goes_on = self.more(disk)?;
+            if !goes_on {
                 return Ok(true);
             }
         }
@@ -209,7 +213,7 @@ fn fetch<K: Disk>(
 ) -> Result<Piece, LoadFault>
     requires { 0 < length buffer.old }
     ensures kept { Told (K.stored disk.old) (K.stored disk.new) (λ a b. b ≡ a) }
-    ensures rises { K.faults disk.old ≤ K.faults disk.new }
+    ensures rises { StillCounts (K.faults disk.old) (K.faults disk.new) }
     ensures caused { IsCaused result (K.faults disk.old) (K.faults disk.new) }
     ensures fetched { Fetched result (K.stored disk.old) cursor.old cursor.new next.old next.new }
 {

@@ -2,6 +2,8 @@
 //!
 //! A collection grows with the elements that were read, whatever count the file announces.
 
+ghost use Rattle.std.specs.Prelude.{◌≡◌, is_some};
+ghost use Rattle.std.specs.FinMap as fin;
 ghost use Rattle.df_rdbcore.specs.Texts.{IsText};
 ghost use Rattle.df_rdbcore.specs.Parts.{Both, NoneTwice, firsts};
 ghost use Rattle.df_rdbload.specs.Stops.{Any, CountStops, ElementStops, MemberStops, PairStops, Midway, ValueStops};
@@ -12,6 +14,7 @@ ghost use Rattle.df_rdbload.specs.Entries.{IsCount, AreElements, AreMembers, Are
 use crate::source::Source;
 use df_colls::{HashVal, SetVal};
 use df_list::ListVal;
+use df_model::Bin;
 use df_outside::Disk;
 use df_rdbcore::{LoadFault, PartFault, Twice};
 use df_values::{StrVal, Value};
@@ -32,14 +35,17 @@ pub fn value<K: Disk>(
         let text = source.string(alloc, disk)?;
         return Ok(Value::Str(StrVal::from_bin(text)));
     }
-    let count = count(disk, source, begin)?;
+    let many = count(disk, source, begin)?;
     if kind == 1 {
-        return Ok(Value::List(elements(alloc, disk, source, count)?));
+        let list = elements(alloc, disk, source, many)?;
+        return Ok(Value::List(list));
     }
     if kind == 2 {
-        return Ok(Value::Set(members(alloc, disk, source, count, begin)?));
+        let set = members(alloc, disk, source, many, begin)?;
+        return Ok(Value::Set(set));
     }
-    Ok(Value::Hash(fields(alloc, disk, source, count, begin)?))
+    let hash = fields(alloc, disk, source, many, begin)?;
+    Ok(Value::Hash(hash))
 }
 
 /// Takes the count of a collection, which isn't empty.
@@ -115,7 +121,7 @@ fn fields<K: Disk>(
     let mut hash = HashVal::new(alloc);
     'fields: for _at in 0..count {
         let field = source.string(alloc, disk)?;
-        if hash.get(field.as_slice()).is_some() {
+        if has_field(&hash, &field) {
             return Err(LoadFault::Duplicate {
                 kind: Twice::Field,
                 at: begin,
@@ -128,4 +134,10 @@ fn fields<K: Disk>(
         let _old = hash.put(field, held);
     }
     Ok(hash)
+}
+
+fn has_field(hash: &HashVal, field: &Bin) -> bool
+    ensures { result ≡ is_some (fin.get hash.now.fields field.now) }
+{
+    hash.get(field.as_slice()).is_some()
 }
