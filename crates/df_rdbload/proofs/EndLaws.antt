@@ -87,14 +87,14 @@ module _ {s t : Option Stored} {n m : ℕ} {old middle : Stage} (bytes : Bytes) 
         SumStops.After stored (omega (arith, long, both, apart, more)) (is ∙ ap (from_le_bytes w64) (sym eight_there)) good place;
     }
 
-    pub end_whole : to_le_bytes w64 stored ≡ bytes → SeesEnd (Ok true) t u m k middle new → Ended (Ok tt) s u n k old new
+    pub end_whole : (length bytes ≡ 8 → to_le_bytes w64 stored ≡ bytes) → SeesEnd (Ok true) t u m k middle new → Ended (Ok tt) s u n k old new
     end_whole back p = record {
       goes = goes_on eight.goes p.goes;
       caused = tt;
       tells = λ file taken ahead has here.
         let w : Whole AreEight bytes file taken ahead middle = eight_at file taken ahead has here in
         let none : w.behind ≡ [] = p.tells file (taken ++ w.form) w.behind (file_on s t file eight.goes.kept has) w.at in
-        (stored, good, w.front ∙ ap (λ z. w.form ++ z) none ∙ append-nil w.form ∙ w.form_is.0 ∙ sym back);
+        (stored, good, w.front ∙ ap (λ z. w.form ++ z) none ∙ append-nil w.form ∙ w.form_is.0 ∙ sym (back w.form_is.1));
     }
 
 pub end_short : (fault : LoadFault) (r : Result (Unit {0}) LoadFault) {s t : Option Stored} {n m : ℕ} {old new : Stage} → r ≡ Err fault → Reads AreEight EightStop (Err fault) s t n m old new → Ended r s t n m old new

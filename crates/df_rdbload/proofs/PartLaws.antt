@@ -12,10 +12,10 @@ use Rattle.df_rdbcore.specs.Reading.{place_of}
 use Rattle.df_rdbcore.specs.Parts.{Entry, InTurn, IsPart, NoneTwice, firsts}
 use Rattle.df_rdbcore.specs.Files.{Spells, IsFile, head, summed, keyspace_of}
 use Rattle.df_rdbcore.specs.declared.fault.LoadFault.{LoadFault}
-use Rattle.df_rdbload.specs.FileStops.{PartStops, SumStops, HeadStops, added, IsVersion, Begun, FileStops}
-use Rattle.df_rdbload.specs.Sources.{Stage, IsAt, HasFile, HasCause, Goes, Whole, Halts, Tells, Reads}
-use Rattle.df_rdbload.specs.Entries.{keyspace_in, Adds, PartRead, Gathers, IsGathered, BodyRead, BodyStops, HeadRead, EndRead, Ended, FileRead, ReadsFile}
-use Rattle.df_rdbload.proofs.Steps.{kept_on, file_on, goes_on, cause_on, halts_as, whole_join}
+use Rattle.df_rdbload.specs.FileStops.{HoldsKey, EntryStops, PassedStops, PartStops, SumStops, HeadStops, added, IsVersion, Begun, FileStops}
+use Rattle.df_rdbload.specs.Sources.{Stage, IsAt, HasFile, HasCause, Goes, Whole, Halts, Tells, Reads, IsByte}
+use Rattle.df_rdbload.specs.Entries.{keyspace_in, Adds, PartRead, EntryRead, PassedRead, Gathers, IsGathered, BodyRead, BodyStops, HeadRead, EndRead, Ended, FileRead, ReadsFile}
+use Rattle.df_rdbload.proofs.Steps.{Lifts, kept_on, file_on, goes_on, cause_on, halts_as, whole_join}
 use Rattle.df_rdbload.proofs.SourceLaws.{Never}
 use Rattle.df_rdbload.proofs.KeyLaws.{in_turn_push, once_push, firsts_push, added_none, added_some}
 
@@ -35,7 +35,7 @@ grown_by es fs body form (Some entry) g part adds = record {
   keys_are = ap keyspace_of (added_some g.parts entry) ∙ adds.1;
 }
 
-abbrev entries_in : List (Bytes × Value) → List Entry
+abbrev pub entries_in : List (Bytes × Value) → List Entry
 entries_in es = map (λ e. (e.0, seen e.1)) es
 
 module _ {s t : Option Stored} {n m : ℕ} {old middle : Stage} (es : List (Bytes × Value)) (so_far : Reads IsGathered Never (Ok es) s t n m old middle) where
@@ -87,6 +87,29 @@ module _ {s t : Option Stored} {n m : ℕ} {old middle : Stage} (es : List (Byte
     };
   })
 
+-- ---- a part behind its first byte
+
+begins_with : (first : ℕ) (rest form behind : Bytes) → form ≡ first ∷ [] → rest ≡ form ++ behind → rest ≡ first ∷ behind
+begins_with first rest form behind is whole = whole ∙ ap (λ z. z ++ behind) is
+
+pub entry_stops : (keys : List Bytes) (first begin : ℕ) (old : Stage) → HoldsKey first → begin ≡ old.cursor.place → Lifts IsByte first (EntryStops keys first begin) (PartStops keys) old
+entry_stops keys first begin old holds b size at rest form behind fault place is whole h =
+    let long : length form ≡ 1 = ap length is in
+    PartStops.Holds first behind holds (begins_with first rest form behind is whole)
+    (subst (λ k. EntryStops keys first k size (at + 1) behind fault) (b ∙ place) (subst (λ n. EntryStops keys first begin size (at + n) behind fault) long h))
+
+pub passed_stops : (keys : List Bytes) (first begin : ℕ) (old : Stage) → begin ≡ old.cursor.place → Lifts IsByte first (PassedStops first begin) (PartStops keys) old
+passed_stops keys first begin old b size at rest form behind fault place is whole h =
+    let long : length form ≡ 1 = ap length is in
+    PartStops.Passed first behind (begins_with first rest form behind is whole)
+    (subst (λ k. PassedStops first k size (at + 1) behind fault) (b ∙ place) (subst (λ n. PassedStops first begin size (at + n) behind fault) long h))
+
+pub entry_read : (read : List Entry) (fs : List (Bytes × Value)) (first : ℕ) (form more : Bytes) → IsByte form first → EntryRead first read fs more tt → PartRead read fs (form ++ more) true
+entry_read read fs first form more p q = (Some q.0, IsPart.Holds first more q.0 q.1 (ap (λ z. z ++ more) p) refl, q.2)
+
+pub passed_read : (read : List Entry) (fs : List (Bytes × Value)) (first : ℕ) (form more : Bytes) → keyspace_of read ≡ keyspace_in fs → IsByte form first → PassedRead first more tt → PartRead read fs (form ++ more) true
+passed_read read fs first form more same p q = (None, subst (λ z. IsPart z None) (sym (ap (λ z. z ++ more) p)) q, same)
+
 -- ---- the whole
 
 -- what the sum is taken over
@@ -123,7 +146,7 @@ file_head fault r {s} {t} {n} {m} {old} {new} is h = subst (λ x. ReadsFile x s 
   tells = λ file has at. halts_as (HeadStops (length file) 0 file) (FileStops file) file fault (λ f x. FileStops.Head x) (h.tells.is file [] file has at);
 })
 
-begun : (version : ℕ) (file one body rest : Bytes) (parts : List (Option Entry)) → IsVersion version → one ≡ head version → InTurn IsPart body parts → NoneTwice (firsts (added parts)) → file ≡ one ++ (body ++ rest) → Begun file
+abbrev begun : (version : ℕ) (file one body rest : Bytes) (parts : List (Option Entry)) → IsVersion version → one ≡ head version → InTurn IsPart body parts → NoneTwice (firsts (added parts)) → file ≡ one ++ (body ++ rest) → Begun file
 begun version file one body rest parts is p are once whole = record {
   version = version;
   is_version = is;

@@ -65,3 +65,11 @@ no_mark first a b c d (inr (inr (inr k))) = d k
 
 pub some_of : (n k : ℕ) → 0 < n → k ≡ n → 0 < k
 some_of n k some e = subst (λ z. 0 < z) (sym e) some
+
+pub at_true : (b : Bool) (P : Type 0) → b ≡ true → OnTrue b P → P
+at_true true P e p = p
+at_true false P e p = cc
+
+pub at_false : (b : Bool) (P : Type 0) → b ≡ false → OnFalse b P → P
+at_false true P e p = cc
+at_false false P e p = p

@@ -1,5 +1,7 @@
 //! A file's end: the sum of what stands before it, and nothing behind.
 
+ghost use Rattle.std.specs.Prelude.{◌≡◌, ◌⊎◌};
+ghost use Rattle.std.specs.Bool.{OnTrue, OnFalse};
 ghost use Rattle.df_rdbload.specs.Sources.{Reads};
 ghost use Rattle.df_rdbload.specs.Entries.{AreEight, EightStop, Ended};
 
@@ -15,7 +17,7 @@ pub fn end<K: Disk>(disk: &mut K, source: &mut Source) -> Result<(), LoadFault>
     let at = source.place();
     let bytes = sum_bytes(disk, source)?;
     let stored = u64::from_le_bytes(bytes);
-    if stored != 0 && stored != computed {
+    if !is_good(stored, computed) {
         return Err(LoadFault::BadChecksum {
             stored,
             computed,
@@ -31,6 +33,17 @@ pub fn end<K: Disk>(disk: &mut K, source: &mut Source) -> Result<(), LoadFault>
         });
     }
     Ok(())
+}
+
+/// Whether the sum is that of the file, or says that none was made.
+fn is_good(stored: u64, computed: u64) -> bool
+    ensures yes { OnTrue result ((stored ≡ 0) ⊎ (stored ≡ computed)) }
+    ensures no { OnFalse result ((stored ≡ 0) ⊎ (stored ≡ computed) → ⊥) }
+{
+    if stored == 0 {
+        return true;
+    }
+    stored == computed
 }
 
 /// Takes eight bytes.

@@ -1,6 +1,7 @@
 //! A file's first nine bytes: the magic, and the version as four digits.
 
 ghost use Rattle.std.specs.Prelude.{◌≡◌, ◌⊎◌};
+ghost use Rattle.std.specs.Bool.{OnTrue, OnFalse};
 ghost use Rattle.df_rdbload.specs.FileStops.{HeadStops};
 ghost use Rattle.df_rdbload.specs.Sources.{Reads};
 ghost use Rattle.df_rdbload.specs.Entries.{HeadRead, IsLiteral, LiteralStops, VersionRead, VersionStops, IsLast};
@@ -46,11 +47,22 @@ fn version<K: Disk>(disk: &mut K, source: &mut Source) -> Result<bool, LoadFault
         return Ok(false);
     }
     let tens = source.byte(disk)?;
-    if tens != b'0' && tens != b'1' {
+    if !is_tens(tens) {
         return Ok(false);
     }
     let ones = source.byte(disk)?;
     Ok(is_read(tens, ones))
+}
+
+/// Whether the version with this third digit may be read.
+fn is_tens(tens: u8) -> bool
+    ensures yes { OnTrue result ((tens ≡ 48) ⊎ (tens ≡ 49)) }
+    ensures no { OnFalse result ((tens ≡ 48) ⊎ (tens ≡ 49) → ⊥) }
+{
+    if tens == b'0' {
+        return true;
+    }
+    tens == b'1'
 }
 
 /// Whether the version with these last digits is read.

@@ -95,10 +95,10 @@ fn entry<K: Disk>(
         });
     }
     let held = value(alloc, disk, source, kind, begin)?;
-    if keys.insert(key, held).is_err() {
-        return Err(LoadFault::NoMemory);
+    match keys.insert(key, held) {
+        Ok(_) => Ok(()),
+        Err(_) => Err(LoadFault::NoMemory),
     }
-    Ok(())
 }
 
 /// Takes a part that adds no key, behind its first byte, or says why it isn't read.

@@ -37,7 +37,7 @@ fields-preserved g c =
         (λ form more p q. in_turn_push (Both IsText IsText) form more pairs (field, held) p q);
       count = omega (arith, long, before);
       once = subst NoneTwice (sym (firsts_push pairs (field, held))) (once_push (firsts pairs) field c.fields.invariant.once (field_new pairs field new));
-      fields = c.put.ensures.fields ∙ ap (λ m. fin.insert m field held) (c.reserve.ensures.fields ∙ c.fields.invariant.fields) ∙ field_pushed pairs field held new;
+      fields = c.put-old.ensures.fields ∙ ap (λ m. fin.insert m field held) (c.reserve.ensures.fields ∙ c.fields.invariant.fields) ∙ field_pushed pairs field held new;
     }
 
 pub returns-in_err-field : goal.returns-in_err-field

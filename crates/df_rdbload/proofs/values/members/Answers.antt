@@ -27,7 +27,7 @@ members-preserved g c =
     let texts = c.members.invariant.texts in
     let text = c.in_ok-member.member in
     let here : c.reserve.new.self.members ≡ members_of texts = c.reserve.ensures.members ∙ c.members.invariant.members in
-    let new : not (members.contains (members_of texts) text) ≡ true = ap (λ m. not (members.contains m text)) (sym here) ∙ sym c.add.ensures.new ∙ c.if-add.false in
+    let new : not (members.contains (members_of texts) text) ≡ true = ap (λ m. not (members.contains m text)) (sym here) ∙ sym c.add.ensures.new ∙ c.if-not-add.false in
     let long = length-append texts (text ∷ []) in
     let before = c.members.invariant.count in
     record {
@@ -47,12 +47,12 @@ returns-in_err-member g c =
 pub returns-then-is_err : goal.returns-then-is_err
 returns-then-is_err g c = reads_no_memory (AreMembers c.args.count) (Midway IsText NoneTwice (MemberStops c.args.begin) c.args.count) (goes_on c.members.invariant.read.goes c.in_ok-member.ensures.goes)
 
-pub returns-then-add : goal.returns-then-add
-returns-then-add g c =
+pub returns-then-not-add : goal.returns-then-not-add
+returns-then-not-add g c =
     let texts = c.members.invariant.texts in
     let text = c.in_ok-member.member in
     let here : c.reserve.new.self.members ≡ members_of texts = c.reserve.ensures.members ∙ c.members.invariant.members in
-    let again : not (members.contains (members_of texts) text) ≡ false = ap (λ m. not (members.contains m text)) (sym here) ∙ sym c.add.ensures.new ∙ c.if-add.true in
+    let again : not (members.contains (members_of texts) text) ≡ false = ap (λ m. not (members.contains m text)) (sym here) ∙ sym c.add.ensures.new ∙ c.if-not-add.true in
     let before = c.members.invariant.count in
     let fault = faults.Duplicate twice.Member c.args.begin in
     reads_stops (AreMembers c.args.count) (Midway IsText NoneTwice (MemberStops c.args.begin) c.args.count) _ refl c.members.invariant.read
