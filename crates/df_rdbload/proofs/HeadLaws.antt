@@ -43,6 +43,10 @@ agrees_longer [] more rest short a = absurd (omega arith)
 agrees_longer (x ∷ text) more [] short a = tt
 agrees_longer (x ∷ text) more (b ∷ rest) short a = (a.0, agrees_longer text more rest (omega arith) a.1)
 
+agrees_itself : (text more : Bytes) → Agrees text (text ++ more)
+agrees_itself [] more = tt
+agrees_itself (x ∷ text) more = (refl, agrees_itself text more)
+
 -- ---- a fixed text
 
 abbrev pub IsFront : Bytes → Bytes → ℕ → Type 0
@@ -108,7 +112,15 @@ pub tens_stop : (old : Stage) → Lifts (IsLiteral zeros) true ByteStops Version
 tens_stop old size at rest form behind fault place p whole h =
     let all : rest ≡ zeros = whole ∙ ap (λ z. form ++ z) h.0 ∙ append-nil form ∙ p in
     let long = ap length all in
-    (5, five, subst (Agrees (digits 5)) (sym all) (refl, refl, tt), omega (arith, long), h.1)
+    (5, five, subst (Agrees (digits 5)) (sym all) (refl, (refl, tt)), omega (arith, long), h.1)
+
+low_digit : (k : ℕ) → k < 2 → (k ≡ 0) ⊎ (k ≡ 1)
+low_digit zero h = inl refl
+low_digit (suc zero) h = inr refl
+low_digit (suc (suc k)) h = absurd (omega arith)
+
+small : (v : ℕ) → v ≤ 12 → (v / 10 ≡ 0) ⊎ (v / 10 ≡ 1)
+small v high = low_digit (v / 10) (omega arith)
 
 pub tens_other : (tens : ℕ) (form more : Bytes) → (tens ≡ 48 → ⊥) → (tens ≡ 49 → ⊥) → IsLiteral zeros form true → IsByte more tens → VersionRead (form ++ more) false
 tens_other tens form more no0 no1 p q version is a =
@@ -117,14 +129,6 @@ tens_other tens form more no0 no1 p q version is a =
     let low = is.0 in
     let high = is.1 in
     elim (small version high) [ inl zero_tens ↦ no0 (sym same ∙ ap (λ z. 48 + z) zero_tens) | inr one_ten ↦ no1 (sym same ∙ ap (λ z. 48 + z) one_ten) ]
-  where
-    small : (v : ℕ) → v ≤ 12 → (v / 10 ≡ 0) ⊎ (v / 10 ≡ 1)
-    small v high = by_size (v / 10) (omega arith)
-      where
-        by_size : (k : ℕ) → k < 2 → (k ≡ 0) ⊎ (k ≡ 1)
-        by_size zero h = inl refl
-        by_size (suc zero) h = inr refl
-        by_size (suc (suc k)) h = absurd (omega arith)
 
 pub ones_stop : (tens : ℕ) (old : Stage) → (tens ≡ 48) ⊎ (tens ≡ 49) → Lifts (AreTens tens) tens ByteStops VersionStops old
 ones_stop tens old which size at rest form behind fault place p whole h =
@@ -132,8 +136,8 @@ ones_stop tens old which size at rest form behind fault place p whole h =
     let long = ap length all in
     let short : length rest < 4 = omega (arith, long) in
     elim which [
-      | inl zero_tens ↦ (5, five, subst (Agrees (digits 5)) (sym all) (refl, refl, sym zero_tens, tt), short, h.1)
-      | inr one_ten ↦ (10, ten, subst (Agrees (digits 10)) (sym all) (refl, refl, sym one_ten, tt), short, h.1)
+      | inl zero_tens ↦ (5, five, subst (Agrees (digits 5)) (sym all) (refl, (refl, (sym zero_tens, tt))), short, h.1)
+      | inr one_ten ↦ (10, ten, subst (Agrees (digits 10)) (sym all) (refl, (refl, (sym one_ten, tt))), short, h.1)
     ]
 
 pub version_read : (tens ones : ℕ) (read : Bool) (form more : Bytes) → IsLast tens ones read → AreTens tens form tens → IsByte more ones → VersionRead (form ++ more) read
@@ -164,12 +168,8 @@ version_stops old size at rest form behind fault place p whole h =
 pub version_other : (size at : ℕ) (rest form behind : Bytes) → form ≡ magic → (more after : Bytes) → VersionRead more false → behind ≡ more ++ after → rest ≡ form ++ behind → HeadStops size at rest faults.BadVersion
 version_other size at rest form behind p more after isnt e whole =
     let all : rest ≡ magic ++ behind = whole ∙ ap (λ z. z ++ behind) p in
-    HeadStops.Version (subst (Agrees magic) (sym all) (agrees_shorter_not magic behind))
+    HeadStops.Version (subst (Agrees magic) (sym all) (agrees_itself magic behind))
     (λ version is a. isnt version is (agrees_shorter (digits version) more after (subst (Agrees (digits version)) e (agrees_behind magic (digits version) behind (subst (Agrees (head version)) all a))))) refl
-  where
-    agrees_shorter_not : (text more : Bytes) → Agrees text (text ++ more)
-    agrees_shorter_not [] more = tt
-    agrees_shorter_not (x ∷ text) more = (refl, agrees_shorter_not text more)
 
 abbrev pub MagicVersion : Bytes → Bool → Type 0
 MagicVersion form read = (front : Bytes) × (more : Bytes) × (front ≡ magic) × VersionRead more read × (form ≡ front ++ more)

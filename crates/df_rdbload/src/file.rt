@@ -43,7 +43,8 @@ pub fn load<K: Disk>(alloc: Global, disk: &mut K) -> Result<Loaded, LoadFault>
     if source.is_missing() {
         return Ok(Loaded::NoFile);
     }
-    Ok(Loaded::Keys(read?))
+    let keys = read?;
+    Ok(Loaded::Keys(keys))
 }
 
 /// Reads a file from its begin to its end.
