@@ -16,7 +16,9 @@ use Rattle.df_rdbload.specs.FileStops.{SumStops}
 use Rattle.df_rdbload.specs.Sources.{Stage, IsAt, HasFile, HasCause, Goes, Whole, Halts, ByteStops, IsByte, Reads, EndIs, SeesEnd}
 use Rattle.df_rdbload.specs.Entries.{AreEight, EightStop, EndRead, Ended}
 use Rattle.df_rdbload.proofs.Steps.{Lifts, goes_on, cause_on, file_on, halts_as, halts_in}
+use Rattle.std.proofs.lemmas.Nat.{from_le_bytes-to_le_bytes_8}
 use Rattle.df_rdbload.proofs.SourceLaws.{Never}
+use Rattle.df_rdbload.proofs.HeadLaws.{take_whole}
 
 -- ---- eight bytes
 
@@ -40,14 +42,20 @@ eight_stops i bytes old lt size at rest form behind fault place is whole h =
 take_seam : (form behind : Bytes) (n : ℕ) → length form ≡ n → take n (form ++ behind) ≡ form
 take_seam form behind n e = subst (λ k. take k (form ++ behind) ≡ form) e (take-append_seam form behind)
 
+whole_back : (stored : ℕ) (bytes : Bytes) → to_le_bytes w64 stored ≡ take 8 bytes → length bytes ≡ 8 → to_le_bytes w64 stored ≡ bytes
+whole_back stored bytes back long = back ∙ take_whole 8 bytes (omega (arith, long))
+
+number_is : (stored : ℕ) (bytes : Bytes) → stored < 2 ^ 64 → to_le_bytes w64 stored ≡ take 8 bytes → length bytes ≡ 8 → stored ≡ from_le_bytes w64 bytes
+number_is stored bytes fits back long = sym (from_le_bytes-to_le_bytes_8 stored fits) ∙ ap (from_le_bytes w64) (whole_back stored bytes back long)
+
 module _ {s t : Option Stored} {n m : ℕ} {old middle : Stage} (bytes : Bytes) (eight : Reads AreEight EightStop (Ok bytes) s t n m old middle) where
   -- the bytes behind the place where the sum is
   eight_at : (file taken ahead : Bytes) → HasFile s file → IsAt file taken ahead old → Whole AreEight bytes file taken ahead middle
   eight_at file taken ahead has at = eight.tells.is file taken ahead has at
 
-  pub sum_wrong : (stored computed at : ℕ) → stored ≡ from_le_bytes w64 bytes → (stored ≡ 0 → ⊥) → (stored ≡ computed → ⊥) → computed ≡ old.cursor.sum → at ≡ old.cursor.place
+  pub sum_wrong : (stored computed at : ℕ) → stored < 2 ^ 64 → to_le_bytes w64 stored ≡ take 8 bytes → (stored ≡ 0 → ⊥) → (stored ≡ computed → ⊥) → computed ≡ old.cursor.sum → at ≡ old.cursor.place
       → Ended (Err (faults.BadChecksum stored computed at)) s t n m old middle
-  sum_wrong stored computed at is no0 no c p = record {
+  sum_wrong stored computed at fits back no0 isnt c p = record {
     goes = eight.goes;
     caused = tt;
     tells = λ file taken ahead has here.
@@ -58,10 +66,10 @@ module _ {s t : Option Stored} {n m : ℕ} {old middle : Stage} (bytes : Bytes) 
       let eight_there : take 8 ahead ≡ bytes = ap (take 8) w.front ∙ take_seam w.form w.behind 8 long ∙ w.form_is.0 in
       let place : faults.BadChecksum stored computed at ≡ faults.BadChecksum stored computed (place_of (length taken)) = ap (λ k. faults.BadChecksum stored computed k) (p ∙ here.place) in
       subst (λ k. SumStops k (length file) (length taken) ahead (faults.BadChecksum stored computed at)) c
-      (SumStops.Wrong stored (omega (arith, long, both, apart)) (is ∙ ap (from_le_bytes w64) (sym eight_there)) no0 no place);
+      (SumStops.Wrong stored (omega (arith, long, both, apart)) (number_is stored bytes fits back w.form_is.1 ∙ ap (from_le_bytes w64) (sym eight_there)) no0 isnt place);
   }
 
-  module _ {u : Option Stored} {k : ℕ} {new : Stage} (stored : ℕ) (is : stored ≡ from_le_bytes w64 bytes) (good : (stored ≡ 0) ⊎ (stored ≡ old.cursor.sum)) where
+  module _ {u : Option Stored} {k : ℕ} {new : Stage} (stored : ℕ) (fits : stored < 2 ^ 64) (back : to_le_bytes w64 stored ≡ take 8 bytes) (good : (stored ≡ 0) ⊎ (stored ≡ old.cursor.sum)) where
     pub end_fails : (fault : LoadFault) (r : Result (Unit {0}) LoadFault) → r ≡ Err fault → SeesEnd (Err fault) t u m k middle new → Ended r s u n k old new
     end_fails fault r e p = subst (λ x. Ended x s u n k old new) (sym e) (record {
       goes = goes_on eight.goes p.goes;
@@ -84,17 +92,17 @@ module _ {s t : Option Stored} {n m : ℕ} {old middle : Stage} (bytes : Bytes) 
         let eight_there : take 8 ahead ≡ bytes = ap (take 8) w.front ∙ take_seam w.form w.behind 8 long ∙ w.form_is.0 in
         let far : length (taken ++ w.form) ≡ length taken + 8 = length-append taken w.form ∙ ap (λ z. length taken + z) long in
         let place : faults.BadPart part.After at ≡ faults.BadPart part.After (place_of (length taken + 8)) = ap (faults.BadPart part.After) (q ∙ w.at.place ∙ ap place_of far) in
-        SumStops.After stored (omega (arith, long, both, apart, more)) (is ∙ ap (from_le_bytes w64) (sym eight_there)) good place;
+        SumStops.After stored (omega (arith, long, both, apart, more)) (number_is stored bytes fits back w.form_is.1 ∙ ap (from_le_bytes w64) (sym eight_there)) good place;
     }
 
-    pub end_whole : (length bytes ≡ 8 → to_le_bytes w64 stored ≡ bytes) → SeesEnd (Ok true) t u m k middle new → Ended (Ok tt) s u n k old new
-    end_whole back p = record {
+    pub end_whole : SeesEnd (Ok true) t u m k middle new → Ended (Ok tt) s u n k old new
+    end_whole p = record {
       goes = goes_on eight.goes p.goes;
       caused = tt;
       tells = λ file taken ahead has here.
         let w : Whole AreEight bytes file taken ahead middle = eight_at file taken ahead has here in
         let none : w.behind ≡ [] = p.tells file (taken ++ w.form) w.behind (file_on s t file eight.goes.kept has) w.at in
-        (stored, good, w.front ∙ ap (λ z. w.form ++ z) none ∙ append-nil w.form ∙ w.form_is.0 ∙ sym (back w.form_is.1));
+        (stored, good, w.front ∙ ap (λ z. w.form ++ z) none ∙ append-nil w.form ∙ w.form_is.0 ∙ sym (whole_back stored bytes back w.form_is.1));
     }
 
 pub end_short : (fault : LoadFault) (r : Result (Unit {0}) LoadFault) {s t : Option Stored} {n m : ℕ} {old new : Stage} → r ≡ Err fault → Reads AreEight EightStop (Err fault) s t n m old new → Ended r s t n m old new

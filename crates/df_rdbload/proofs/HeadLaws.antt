@@ -142,7 +142,7 @@ ones_stop tens old which size at rest form behind fault place p whole h =
 
 pub version_read : (tens ones : ℕ) (read : Bool) (form more : Bytes) → IsLast tens ones read → AreTens tens form tens → IsByte more ones → VersionRead (form ++ more) read
 version_read tens ones true form more (version, is, p, q) f m = (version, is, ap (λ z. z ++ more) f ∙ ap (λ z. 48 ∷ 48 ∷ tens ∷ z) m ∙ ap (λ z. 48 ∷ 48 ∷ z ∷ ones ∷ []) p ∙ ap (λ z. 48 ∷ 48 ∷ (48 + version / 10) ∷ z ∷ []) q)
-version_read tens ones false form more isnt f m version is a =
+version_read tens ones false form more isnt f m = λ version is a.
     let there : Agrees (digits version) (48 ∷ 48 ∷ tens ∷ ones ∷ []) = subst (Agrees (digits version)) (ap (λ z. z ++ more) f ∙ ap (λ z. 48 ∷ 48 ∷ tens ∷ z) m) a in
     isnt version is (sym there.1.1.0) (sym there.1.1.1.0)
 

@@ -1,6 +1,7 @@
 //! A file's end: the sum of what stands before it, and nothing behind.
 
-ghost use Rattle.std.specs.Prelude.{◌≡◌, ◌⊎◌};
+ghost use Rattle.std.specs.Prelude.{◌≡◌, ◌⊎◌, length, take};
+ghost use Rattle.std.specs.Int.{w64, to_le_bytes};
 ghost use Rattle.std.specs.Bool.{OnTrue, OnFalse};
 ghost use Rattle.df_rdbload.specs.Sources.{Reads};
 ghost use Rattle.df_rdbload.specs.Entries.{AreEight, EightStop, Ended};
@@ -16,7 +17,7 @@ pub fn end<K: Disk>(disk: &mut K, source: &mut Source) -> Result<(), LoadFault>
     let computed = source.sum();
     let at = source.place();
     let bytes = sum_bytes(disk, source)?;
-    let stored = u64::from_le_bytes(bytes);
+    let stored = number(&bytes);
     if !is_good(stored, computed) {
         return Err(LoadFault::BadChecksum {
             stored,
@@ -44,6 +45,16 @@ fn is_good(stored: u64, computed: u64) -> bool
         return true;
     }
     stored == computed
+}
+
+/// The number of these bytes, low byte first.
+fn number(bytes: &[u8]) -> u64
+    requires { length bytes.now ≡ 8 }
+    ensures { to_le_bytes w64 result ≡ take 8 bytes.now }
+{
+    u64::from_le_bytes([
+        bytes[0], bytes[1], bytes[2], bytes[3], bytes[4], bytes[5], bytes[6], bytes[7],
+    ])
 }
 
 /// Takes eight bytes.

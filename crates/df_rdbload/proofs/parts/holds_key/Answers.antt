@@ -13,4 +13,4 @@ pub returns-clause-yes : goal.returns-clause-yes
 returns-clause-yes c = on_true (nat_lt c.args.first 3) _ (λ e. low_holds c.args.first (below c.args.first 3 e))
 
 pub returns-clause-no : goal.returns-clause-no
-returns-clause-no c = on_false (nat_lt c.args.first 3) _ (λ e. no_high c.args.first (above c.args.first 3 e) c.if-first.false)
+returns-clause-no c = on_false (nat_lt c.args.first 3) _ (λ e. no_high c.args.first (above c.args.first 3 e) c.if-first-eq4.false)

@@ -11,9 +11,9 @@ pub returns-in_err-first-clause-reads : goal.returns-in_err-first-clause-reads
 returns-in_err-first-clause-reads g c read same =
     reads_stop (PartRead read c.args.keys.now.entries) (PartStops (firsts read)) _ (err_is _ c.in_err-first.field-0.0 c.from_residual.ensures.1) c.in_err-first.ensures.reads (λ size at rest f place h. PartStops.Cut h.0 h.1)
 
-pub returns-then-first-eq255-clause-reads : goal.returns-then-first-eq255-clause-reads
-returns-then-first-eq255-clause-reads g c read same =
-    reads_as (PartRead read c.args.keys.now.entries) (PartStops (firsts read)) false c.in_ok-first.ensures.reads (λ form is. (is ∙ ap (λ b. b ∷ []) c.if-first-eq255.true, same))
+pub returns-then-first-clause-reads : goal.returns-then-first-clause-reads
+returns-then-first-clause-reads g c read same =
+    reads_as (PartRead read c.args.keys.now.entries) (PartStops (firsts read)) false c.in_ok-first.ensures.reads (λ form is. (is ∙ ap (λ b. b ∷ []) c.if-first.true, same))
 
 pub returns-in_err-entry-clause-reads : goal.returns-in_err-entry-clause-reads
 returns-in_err-entry-clause-reads g c read same =
