@@ -1,6 +1,6 @@
 -- What a read of the disk makes of how far reading has come.
 use Rattle.std.proofs.Common.{◌≡◌, ℕ, zero, suc, ◌+◌, ◌-◌, ◌^◌, ◌<◌, ◌≤◌, inl, inr, Bool, true, false, cond, [], ◌∷◌, ◌++◌, length, take, drop, refl, sym, ap, subst, ◌∙◌, arith, append_assoc, append-nil, length-append}
-use Rattle.std.specs.Prelude.{Option, Some, None, Result, Ok, Err, ◌⊎◌}
+use Rattle.std.specs.Prelude.{Option, Some, None, Ok, Err}
 use Rattle.std.proofs.lemmas.Grind.{common_steps}
 use Rattle.std.proofs.lemmas.List.{drop-drop, length-take}
 use Rattle.df_model.specs.Values.{Bytes}
@@ -8,8 +8,8 @@ use Rattle.df_outside.specs.Disks.{Stored, Told, Holds, IsPast}
 use Rattle.df_rdbcore.specs.Reading.{Stand, place_of}
 use Rattle.df_rdbcore.specs.declared.fault.LoadFault.{LoadFault}
 use Rattle.df_rdbcore.specs.declared.fault.LoadFault.TheVariants as faults
-use Rattle.df_rdbload.specs.Sources.{Stage, IsAt, HasFile, HasNone, HasSome, WhereTold, IsBeyond, StillCounts, HasCause, Goes, Halts, room, reads_left, Grows, Stays, KeepFails, IsTooMuch, ReadsOn, Reading}
-use Rattle.df_rdbload.proofs.Steps.{kept_none, goes_none}
+use Rattle.df_rdbload.specs.Sources.{Stage, IsAt, HasFile, WhereTold, IsBeyond, StillCounts, HasCause, Halts, room, reads_left, Grows, Stays, KeepFails, IsTooMuch, Reading}
+use Rattle.df_rdbload.proofs.Steps.{goes_none}
 
 -- ---- what the disk tells
 
@@ -122,19 +122,20 @@ more_kept piece s t n m old new kept rises going ended missing g = record {
   left = subst (λ b. (2 ^ 64 - new.next) + cond b 0 1 < reads_left old) (sym ended) fewer;
   finds = inr (inr (where_on (λ o. (bytes : Bytes) × (o ≡ Some bytes)) s t kept (where_as (λ o. Holds o old.next piece) (λ o. (bytes : Bytes) × (o ≡ Some bytes)) s (held_some old.next piece) g.there)));
   tells = λ file taken ahead has at.
-    let holds : Holds (Some file) old.next piece = where_of (λ o. Holds o old.next piece) s file has g.there in
-    record {
-      whole = at.whole;
-      left = left_on piece file old.cursor.rest new.cursor.rest old.next new.next holds g.rest g.next_is ∙ at.left;
-      within = let end = holds.0 in let next_is = g.next_is in omega (arith, end, next_is);
-      place = g.place ∙ at.place;
-      sum = g.sum ∙ at.sum;
-      end = λ e. false_true new.ended (ended ∙ going) e;
-    };
+      let holds : Holds (Some file) old.next piece = where_of (λ o. Holds o old.next piece) s file has g.there in
+      record {
+        whole = at.whole;
+        left = left_on piece file old.cursor.rest new.cursor.rest old.next new.next holds g.rest g.next_is ∙ at.left;
+        within = let end = holds.0 in let next_is = g.next_is in omega (arith, end, next_is);
+        place = g.place ∙ at.place;
+        sum = g.sum ∙ at.sum;
+        end = λ e. false_true new.ended (ended ∙ going) e;
+      };
 }
   where
     less : room new ≤ room old
     less = let long = ap length g.rest in let both = length-append old.cursor.rest piece in let next_is = g.next_is in let fits = g.fits in omega (arith, long, both, next_is, fits)
+
     fewer : (2 ^ 64 - new.next) + cond old.ended 0 1 < (2 ^ 64 - old.next) + cond old.ended 0 1
     fewer = let some = g.some in let next_is = g.next_is in let fits = g.fits in omega (arith, some, next_is, fits)
 
@@ -160,8 +161,8 @@ more_end s t n m old new kept rises missing fits g past = record {
   left = (g.rest, g.place);
   finds = inr (inr (where_on (λ o. (bytes : Bytes) × (o ≡ Some bytes)) s t kept (where_as (λ o. IsPast o old.next) (λ o. (bytes : Bytes) × (o ≡ Some bytes)) s (past_some old.next) past)));
   tells = λ file taken ahead has at.
-    let here : length file ≤ old.next = where_of (λ o. IsPast o old.next) s file has past in
-    ended_at file taken ahead old new g.rest g.place g.sum g.next_is fits (subst (λ k. length file ≤ k) (sym g.next_is) here) at;
+      let here : length file ≤ old.next = where_of (λ o. IsPast o old.next) s file has past in
+      ended_at file taken ahead old new g.rest g.place g.sum g.next_is fits (subst (λ k. length file ≤ k) (sym g.next_is) here) at;
 }
 
 no_file : (file : Bytes) → Some file ≡ None → ⊥

@@ -1,23 +1,21 @@
 -- The sum at a file's end.
-use Rattle.std.proofs.Common.{◌≡◌, ℕ, ◌+◌, ◌<◌, ◌≤◌, ◌^◌, inl, inr, Bool, true, false, [], ◌∷◌, ◌++◌, length, take, drop, refl, sym, ap, subst, ◌∙◌, arith, append_assoc, append-nil, length-append}
+use Rattle.std.proofs.Common.{◌≡◌, ℕ, ◌+◌, ◌<◌, ◌^◌, true, false, [], ◌++◌, length, take, sym, ap, subst, ◌∙◌, arith, append-nil, length-append}
 use Rattle.std.specs.Prelude.{Option, Result, Ok, Err, ◌⊎◌}
 use Rattle.std.specs.Int.{w64, from_le_bytes, to_le_bytes}
 use Rattle.std.proofs.lemmas.List.{take_more_set, length-set, length-take}
 use Rattle.std.proofs.Math.ListN.{set}
 use Rattle.std.proofs.Math.Seq.{take-append_seam}
 use Rattle.df_model.specs.Values.{Bytes}
-use Rattle.df_outside.specs.Disks.{Stored, Told}
+use Rattle.df_outside.specs.Disks.{Stored}
 use Rattle.df_rdbcore.specs.Reading.{place_of}
 use Rattle.df_rdbcore.specs.declared.fault.LoadFault.{LoadFault}
 use Rattle.df_rdbcore.specs.declared.fault.LoadFault.TheVariants as faults
 use Rattle.df_rdbcore.specs.declared.fault.PartFault.TheVariants as part
-use Rattle.df_rdbload.specs.Stops.{Ends}
 use Rattle.df_rdbload.specs.FileStops.{SumStops}
-use Rattle.df_rdbload.specs.Sources.{Stage, IsAt, HasFile, HasCause, Goes, Whole, Halts, ByteStops, IsByte, Reads, EndIs, SeesEnd}
-use Rattle.df_rdbload.specs.Entries.{AreEight, EightStop, EndRead, Ended}
-use Rattle.df_rdbload.proofs.Steps.{Lifts, goes_on, cause_on, file_on, halts_as, halts_in}
+use Rattle.df_rdbload.specs.Sources.{Stage, IsAt, HasFile, Whole, ByteStops, IsByte, Reads, SeesEnd}
+use Rattle.df_rdbload.specs.Entries.{AreEight, EightStop, Ended}
+use Rattle.df_rdbload.proofs.Steps.{Lifts, goes_on, cause_on, file_on, halts_as}
 use Rattle.std.proofs.lemmas.Nat.{from_le_bytes-to_le_bytes_8}
-use Rattle.df_rdbload.proofs.SourceLaws.{Never}
 use Rattle.df_rdbload.proofs.HeadLaws.{take_whole}
 
 -- ---- eight bytes
@@ -59,14 +57,14 @@ module _ {s t : Option Stored} {n m : ℕ} {old middle : Stage} (bytes : Bytes) 
     goes = eight.goes;
     caused = tt;
     tells = λ file taken ahead has here.
-      let w : Whole AreEight bytes file taken ahead middle = eight_at file taken ahead has here in
-      let long : length w.form ≡ 8 = ap length w.form_is.0 ∙ w.form_is.1 in
-      let both = ap length w.front in
-      let apart = length-append w.form w.behind in
-      let eight_there : take 8 ahead ≡ bytes = ap (take 8) w.front ∙ take_seam w.form w.behind 8 long ∙ w.form_is.0 in
-      let place : faults.BadChecksum stored computed at ≡ faults.BadChecksum stored computed (place_of (length taken)) = ap (λ k. faults.BadChecksum stored computed k) (p ∙ here.place) in
-      subst (λ k. SumStops k (length file) (length taken) ahead (faults.BadChecksum stored computed at)) c
-      (SumStops.Wrong stored (omega (arith, long, both, apart)) (number_is stored bytes fits back w.form_is.1 ∙ ap (from_le_bytes w64) (sym eight_there)) no0 isnt place);
+        let w : Whole AreEight bytes file taken ahead middle = eight_at file taken ahead has here in
+        let long : length w.form ≡ 8 = ap length w.form_is.0 ∙ w.form_is.1 in
+        let both = ap length w.front in
+        let apart = length-append w.form w.behind in
+        let eight_there : take 8 ahead ≡ bytes = ap (take 8) w.front ∙ take_seam w.form w.behind 8 long ∙ w.form_is.0 in
+        let place : faults.BadChecksum stored computed at ≡ faults.BadChecksum stored computed (place_of (length taken)) = ap (λ k. faults.BadChecksum stored computed k) (p ∙ here.place) in
+        subst (λ k. SumStops k (length file) (length taken) ahead (faults.BadChecksum stored computed at)) c
+        (SumStops.Wrong stored (omega (arith, long, both, apart)) (number_is stored bytes fits back w.form_is.1 ∙ ap (from_le_bytes w64) (sym eight_there)) no0 isnt place);
   }
 
   module _ {u : Option Stored} {k : ℕ} {new : Stage} (stored : ℕ) (fits : stored < 2 ^ 64) (back : to_le_bytes w64 stored ≡ take 8 bytes) (good : (stored ≡ 0) ⊎ (stored ≡ old.cursor.sum)) where
@@ -75,8 +73,8 @@ module _ {s t : Option Stored} {n m : ℕ} {old middle : Stage} (bytes : Bytes) 
       goes = goes_on eight.goes p.goes;
       caused = cause_on fault n m k eight.goes.rises p.caused;
       tells = λ file taken ahead has here.
-        let w : Whole AreEight bytes file taken ahead middle = eight_at file taken ahead has here in
-        halts_as (λ f. ⊥) (SumStops old.cursor.sum (length file) (length taken) ahead) file fault (λ f h. absurd h) (p.tells file (taken ++ w.form) w.behind (file_on s t file eight.goes.kept has) w.at);
+          let w : Whole AreEight bytes file taken ahead middle = eight_at file taken ahead has here in
+          halts_as (λ f. ⊥) (SumStops old.cursor.sum (length file) (length taken) ahead) file fault (λ f h. absurd h) (p.tells file (taken ++ w.form) w.behind (file_on s t file eight.goes.kept has) w.at);
     })
 
     pub end_after : (at : ℕ) → at ≡ middle.cursor.place → SeesEnd (Ok false) t u m k middle new → Ended (Err (faults.BadPart part.After at)) s u n k old new
@@ -84,15 +82,15 @@ module _ {s t : Option Stored} {n m : ℕ} {old middle : Stage} (bytes : Bytes) 
       goes = goes_on eight.goes p.goes;
       caused = tt;
       tells = λ file taken ahead has here.
-        let w : Whole AreEight bytes file taken ahead middle = eight_at file taken ahead has here in
-        let long : length w.form ≡ 8 = ap length w.form_is.0 ∙ w.form_is.1 in
-        let both = ap length w.front in
-        let apart = length-append w.form w.behind in
-        let more : 0 < length w.behind = p.tells file (taken ++ w.form) w.behind (file_on s t file eight.goes.kept has) w.at in
-        let eight_there : take 8 ahead ≡ bytes = ap (take 8) w.front ∙ take_seam w.form w.behind 8 long ∙ w.form_is.0 in
-        let far : length (taken ++ w.form) ≡ length taken + 8 = length-append taken w.form ∙ ap (λ z. length taken + z) long in
-        let place : faults.BadPart part.After at ≡ faults.BadPart part.After (place_of (length taken + 8)) = ap (faults.BadPart part.After) (q ∙ w.at.place ∙ ap place_of far) in
-        SumStops.After stored (omega (arith, long, both, apart, more)) (number_is stored bytes fits back w.form_is.1 ∙ ap (from_le_bytes w64) (sym eight_there)) good place;
+          let w : Whole AreEight bytes file taken ahead middle = eight_at file taken ahead has here in
+          let long : length w.form ≡ 8 = ap length w.form_is.0 ∙ w.form_is.1 in
+          let both = ap length w.front in
+          let apart = length-append w.form w.behind in
+          let more : 0 < length w.behind = p.tells file (taken ++ w.form) w.behind (file_on s t file eight.goes.kept has) w.at in
+          let eight_there : take 8 ahead ≡ bytes = ap (take 8) w.front ∙ take_seam w.form w.behind 8 long ∙ w.form_is.0 in
+          let far : length (taken ++ w.form) ≡ length taken + 8 = length-append taken w.form ∙ ap (λ z. length taken + z) long in
+          let place : faults.BadPart part.After at ≡ faults.BadPart part.After (place_of (length taken + 8)) = ap (faults.BadPart part.After) (q ∙ w.at.place ∙ ap place_of far) in
+          SumStops.After stored (omega (arith, long, both, apart, more)) (number_is stored bytes fits back w.form_is.1 ∙ ap (from_le_bytes w64) (sym eight_there)) good place;
     }
 
     pub end_whole : SeesEnd (Ok true) t u m k middle new → Ended (Ok tt) s u n k old new
@@ -100,9 +98,9 @@ module _ {s t : Option Stored} {n m : ℕ} {old middle : Stage} (bytes : Bytes) 
       goes = goes_on eight.goes p.goes;
       caused = tt;
       tells = λ file taken ahead has here.
-        let w : Whole AreEight bytes file taken ahead middle = eight_at file taken ahead has here in
-        let none : w.behind ≡ [] = p.tells file (taken ++ w.form) w.behind (file_on s t file eight.goes.kept has) w.at in
-        (stored, good, w.front ∙ ap (λ z. w.form ++ z) none ∙ append-nil w.form ∙ w.form_is.0 ∙ sym (whole_back stored bytes back w.form_is.1));
+          let w : Whole AreEight bytes file taken ahead middle = eight_at file taken ahead has here in
+          let none : w.behind ≡ [] = p.tells file (taken ++ w.form) w.behind (file_on s t file eight.goes.kept has) w.at in
+          (stored, good, w.front ∙ ap (λ z. w.form ++ z) none ∙ append-nil w.form ∙ w.form_is.0 ∙ sym (whole_back stored bytes back w.form_is.1));
     }
 
 pub end_short : (fault : LoadFault) (r : Result (Unit {0}) LoadFault) {s t : Option Stored} {n m : ℕ} {old new : Stage} → r ≡ Err fault → Reads AreEight EightStop (Err fault) s t n m old new → Ended r s t n m old new

@@ -1,13 +1,12 @@
 -- A fixed text, read byte by byte, and the digits of a version.
-use Rattle.std.proofs.Common.{◌≡◌, ℕ, zero, suc, ◌+◌, ◌-◌, ◌*◌, ◌/◌, ◌%◌, ◌<◌, ◌≤◌, inl, inr, Bool, true, false, [], ◌∷◌, ◌++◌, length, get_or, take, drop, refl, sym, ap, subst, ◌∙◌, arith, append_assoc, append-nil, length-append, drop-cons}
-use Rattle.std.specs.Prelude.{Result, Ok, Err, ◌⊎◌, codes}
+use Rattle.std.proofs.Common.{◌≡◌, ℕ, zero, suc, ◌+◌, ◌/◌, ◌%◌, ◌<◌, ◌≤◌, inl, inr, Bool, true, false, [], ◌∷◌, ◌++◌, length, get_or, take, drop, refl, sym, ap, subst, ◌∙◌, arith, append-nil, length-append, drop-cons}
+use Rattle.std.specs.Prelude.{◌⊎◌, codes}
 use Rattle.std.proofs.lemmas.Grind.{common_steps}
 use Rattle.std.proofs.lemmas.List.{take_more, length-take}
 use Rattle.df_model.specs.Values.{Bytes}
 use Rattle.df_rdbcore.specs.Files.{head}
 use Rattle.df_rdbcore.specs.declared.fault.LoadFault.{LoadFault}
 use Rattle.df_rdbcore.specs.declared.fault.LoadFault.TheVariants as faults
-use Rattle.df_rdbload.specs.Stops.{Stops, Ends}
 use Rattle.df_rdbload.specs.FileStops.{Agrees, IsVersion, digits, HeadStops}
 use Rattle.df_rdbload.specs.Sources.{Stage, ByteStops, IsByte}
 use Rattle.df_rdbload.specs.Entries.{IsLiteral, LiteralStops, VersionRead, VersionStops, IsLast, HeadRead}

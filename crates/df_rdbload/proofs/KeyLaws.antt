@@ -1,16 +1,15 @@
 -- Lists that grow at their end, and the maps that they make.
-use Rattle.std.proofs.Common.{◌≡◌, ◌≢◌, inl, inr, Bool, true, false, cond, List, [], ◌∷◌, ◌++◌, map, length, refl, sym, ap, subst, ◌∙◌, arith, append_assoc, append-nil, ◌+◌}
-use Rattle.std.specs.Prelude.{Option, Some, None, is_some, not, ◌⊎◌}
+use Rattle.std.proofs.Common.{◌≡◌, ◌≢◌, inl, inr, Bool, true, false, cond, List, [], ◌∷◌, ◌++◌, map, refl, sym, ap, subst, ◌∙◌, append_assoc, append-nil}
+use Rattle.std.specs.Prelude.{Option, Some, None, is_some, not}
 use Rattle.std.specs.Option.{option_map}
 use Rattle.std.specs.Map.{lookup}
 use Rattle.std.specs.Ordering.{nat_cmp, is_eq}
 use Rattle.std.specs.Cmp.{tied_itself}
 use Rattle.std.specs.Cmp.Lexicographic.{slice_cmp, nat_list_cmp_total, texts_ties}
-use Rattle.std.specs.List.{AllByRecursion, filter_map}
+use Rattle.std.specs.List.{AllByRecursion}
 use Rattle.std.specs.FinMap.{find, get-from_entries, get-insert, from_entries, from_entries_push, slice_cmp-IsAntisymmetric, nat_cmp-IsAntisymmetric}
 use Rattle.std.specs.FinMap as fin
 use Rattle.df_model.specs.Values.{Bytes}
-use Rattle.df_model.specs.Values as plain
 use Rattle.df_model.specs.Words.{same}
 use Rattle.df_model.specs.Keyspace.{held}
 use Rattle.df_model.specs.Members as members
@@ -173,12 +172,12 @@ pub key_added : (read : List Entry) (es fs : List (Bytes × Value)) (k : Bytes) 
     → ((q : Bytes) → lookup (same q) fs ≡ cond (same k q) (Some v) (lookup (same q) es)) → Adds (Some (k, seen v)) read fs
 key_added read es fs k v e new put =
     let grown : keyspace_in fs ≡ fin.insert (keyspace_in es) k (seen v) = same_map_by _ _ (λ q.
-        held_in fs q
-        ∙ ap (option_map seen) (put q)
-        ∙ seen_cond (same k q) v (lookup (same q) es)
-        ∙ ap (λ b. cond b (Some (seen v)) (option_map seen (lookup (same q) es))) (sym (tied_is_same q k))
-        ∙ ap (cond (tied q k) (Some (seen v))) (sym (held_in es q))
-        ∙ sym (get-insert nat_list_cmp_total (keyspace_in es) k (seen v) q)) in (
+    held_in fs q
+    ∙ ap (option_map seen) (put q)
+    ∙ seen_cond (same k q) v (lookup (same q) es)
+    ∙ ap (λ b. cond b (Some (seen v)) (option_map seen (lookup (same q) es))) (sym (tied_is_same q k))
+    ∙ ap (cond (tied q k) (Some (seen v))) (sym (held_in es q))
+    ∙ sym (get-insert nat_list_cmp_total (keyspace_in es) k (seen v) q)) in (
       key_new read es k e new,
       pushed read k (seen v) (key_find read es k e ∙ new) ∙ ap (λ K. fin.insert K k (seen v)) e ∙ sym grown,
     )

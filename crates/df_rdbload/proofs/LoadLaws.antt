@@ -1,5 +1,5 @@
 -- What loading came to, from the first read to the last.
-use Rattle.std.proofs.Common.{◌≡◌, ℕ, ◌≤◌, inl, inr, Bool, true, false, [], refl, sym, ap, subst, ◌∙◌, arith}
+use Rattle.std.proofs.Common.{◌≡◌, ℕ, inl, inr, Bool, true, false, [], refl, sym, ap, subst, ◌∙◌, arith}
 use Rattle.std.specs.Prelude.{Option, Some, None, Result, Ok, Err, ◌⊎◌}
 use Rattle.std.specs.HashMap.{HashMap}
 use Rattle.df_model.specs.Values.{Bytes}
@@ -9,10 +9,10 @@ use Rattle.df_rdbcore.specs.Files.{Spells}
 use Rattle.df_rdbcore.specs.declared.fault.LoadFault.{LoadFault}
 use Rattle.df_rdbcore.specs.declared.fault.LoadFault.TheVariants as faults
 use Rattle.df_rdbload.specs.FileStops.{FileStops}
-use Rattle.df_rdbload.specs.Sources.{Stage, start, IsAt, HasFile, HasSome, HasNone, IsBeyond, HasCause, Halts, IsTooMuch, ReadsOn, Reading}
+use Rattle.df_rdbload.specs.Sources.{Stage, start, IsAt, HasFile, HasSome, HasNone, IsBeyond, HasCause, Halts, ReadsOn, Reading}
 use Rattle.df_rdbload.specs.Entries.{keyspace_in, FileRead, ReadsFile}
 use Rattle.df_rdbload.specs.Loads.{OfFile, Refused}
-use Rattle.df_rdbload.proofs.Steps.{file_on, cause_on}
+use Rattle.df_rdbload.proofs.Steps.{cause_on}
 use Rattle.df_rdbload.proofs.DiskLaws.{where_on, where_as, false_true}
 
 of_file : (P : Bytes → Type 0) (t : Option Stored) → HasSome t → ((file : Bytes) → HasFile t file → P file) → OfFile P t

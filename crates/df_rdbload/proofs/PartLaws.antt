@@ -1,21 +1,20 @@
 -- Parts one after another, and the whole of a file.
-use Rattle.std.proofs.Common.{◌≡◌, ◌≢◌, ℕ, ◌+◌, ◌<◌, ◌≤◌, inl, inr, Bool, true, false, List, [], ◌∷◌, ◌++◌, map, length, refl, sym, ap, subst, ◌∙◌, arith, append_assoc, append-nil, length-append}
+use Rattle.std.proofs.Common.{◌≡◌, ℕ, ◌+◌, inl, inr, true, false, List, [], ◌∷◌, ◌++◌, map, length, refl, sym, ap, subst, ◌∙◌, arith, append_assoc, length-append}
 use Rattle.std.specs.Prelude.{Option, Some, None, Result, Ok, Err, ◌⊎◌}
 use Rattle.std.specs.Int.{w64, to_le_bytes}
 use Rattle.std.specs.HashMap.{HashMap}
 use Rattle.df_model.specs.Values.{Bytes}
-use Rattle.df_outside.specs.Disks.{Stored, Told}
+use Rattle.df_outside.specs.Disks.{Stored}
 use Rattle.df_values.specs.Seen.{seen}
 use Rattle.df_values.specs.declared.value.Value.{Value}
 use Rattle.df_rdbcore.specs.Crc.{crc}
-use Rattle.df_rdbcore.specs.Reading.{place_of}
 use Rattle.df_rdbcore.specs.Parts.{Entry, InTurn, IsPart, NoneTwice, firsts}
-use Rattle.df_rdbcore.specs.Files.{Spells, IsFile, head, summed, keyspace_of}
+use Rattle.df_rdbcore.specs.Files.{Spells, head, summed, keyspace_of}
 use Rattle.df_rdbcore.specs.declared.fault.LoadFault.{LoadFault}
 use Rattle.df_rdbload.specs.FileStops.{HoldsKey, EntryStops, PassedStops, PartStops, SumStops, HeadStops, added, IsVersion, Begun, FileStops}
-use Rattle.df_rdbload.specs.Sources.{Stage, IsAt, HasFile, HasCause, Goes, Whole, Halts, Tells, Reads, IsByte}
-use Rattle.df_rdbload.specs.Entries.{keyspace_in, Adds, PartRead, EntryRead, PassedRead, Gathers, IsGathered, BodyRead, BodyStops, HeadRead, EndRead, Ended, FileRead, ReadsFile}
-use Rattle.df_rdbload.proofs.Steps.{Lifts, kept_on, file_on, goes_on, cause_on, halts_as, whole_join}
+use Rattle.df_rdbload.specs.Sources.{Stage, HasFile, Whole, Reads, IsByte}
+use Rattle.df_rdbload.specs.Entries.{keyspace_in, Adds, PartRead, EntryRead, PassedRead, Gathers, IsGathered, BodyRead, BodyStops, HeadRead, EndRead, Ended, ReadsFile}
+use Rattle.df_rdbload.proofs.Steps.{Lifts, file_on, goes_on, cause_on, halts_as, whole_join}
 use Rattle.df_rdbload.proofs.SourceLaws.{Never}
 use Rattle.df_rdbload.proofs.KeyLaws.{in_turn_push, once_push, firsts_push, added_none, added_some}
 
@@ -46,12 +45,12 @@ module _ {s t : Option Stored} {n m : ℕ} {old middle : Stage} (es : List (Byte
     caused = tt;
     tells = record {
       is = λ file taken ahead has at.
-        let w : Whole IsGathered es file taken ahead middle = so_far.tells.is file taken ahead has at in
-        let g : Gathers es w.form = w.form_is in
-        let v : Whole (PartRead (added g.parts) fs) true file (taken ++ w.form) w.behind new =
-        (reads (added g.parts) g.keys_are).tells.is file (taken ++ w.form) w.behind (file_on s t file so_far.goes.kept has) w.at in
-        let p = v.form_is in
-        whole_join IsGathered fs w v (grown_by es fs w.form v.form p.0 g p.1 p.2);
+          let w : Whole IsGathered es file taken ahead middle = so_far.tells.is file taken ahead has at in
+          let g : Gathers es w.form = w.form_is in
+          let v : Whole (PartRead (added g.parts) fs) true file (taken ++ w.form) w.behind new =
+          (reads (added g.parts) g.keys_are).tells.is file (taken ++ w.form) w.behind (file_on s t file so_far.goes.kept has) w.at in
+          let p = v.form_is in
+          whole_join IsGathered fs w v (grown_by es fs w.form v.form p.0 g p.1 p.2);
     };
   }
 
@@ -62,13 +61,13 @@ module _ {s t : Option Stored} {n m : ℕ} {old middle : Stage} (es : List (Byte
     caused = tt;
     tells = record {
       is = λ file taken ahead has at.
-        let w : Whole IsGathered es file taken ahead middle = so_far.tells.is file taken ahead has at in
-        let g : Gathers es w.form = w.form_is in
-        let v : Whole (PartRead (added g.parts) keys.entries) false file (taken ++ w.form) w.behind new =
-        (reads (added g.parts) g.keys_are).tells.is file (taken ++ w.form) w.behind (file_on s t file so_far.goes.kept has) w.at in
-        let p = v.form_is in
-        let all : Gathers keys.entries w.form = record { parts = g.parts; parts_are = g.parts_are; once = g.once; keys_are = p.1 } in
-        whole_join (BodyRead {S = S}) keys w v (w.form, all, ap (λ z. w.form ++ z) p.0);
+          let w : Whole IsGathered es file taken ahead middle = so_far.tells.is file taken ahead has at in
+          let g : Gathers es w.form = w.form_is in
+          let v : Whole (PartRead (added g.parts) keys.entries) false file (taken ++ w.form) w.behind new =
+          (reads (added g.parts) g.keys_are).tells.is file (taken ++ w.form) w.behind (file_on s t file so_far.goes.kept has) w.at in
+          let p = v.form_is in
+          let all : Gathers keys.entries w.form = record { parts = g.parts; parts_are = g.parts_are; once = g.once; keys_are = p.1 } in
+          whole_join (BodyRead {S = S}) keys w v (w.form, all, ap (λ z. w.form ++ z) p.0);
     };
   }
 
@@ -79,11 +78,11 @@ module _ {s t : Option Stored} {n m : ℕ} {old middle : Stage} (es : List (Byte
     caused = cause_on fault n m k so_far.goes.rises (reads (entries_in es) refl).caused;
     tells = record {
       is = λ file taken ahead has at.
-        let w : Whole IsGathered es file taken ahead middle = so_far.tells.is file taken ahead has at in
-        let g : Gathers es w.form = w.form_is in
-        halts_as (PartStops (firsts (added g.parts)) (length file) (length (taken ++ w.form)) w.behind) (BodyStops (length file) (length taken) ahead) file fault
-        (λ f h. record { body = w.form; behind = w.behind; parts = g.parts; parts_are = g.parts_are; once = g.once; whole = w.front; stops = subst (λ i. PartStops (firsts (added g.parts)) (length file) i w.behind f) (length-append taken w.form) h })
-        ((reads (added g.parts) g.keys_are).tells.is file (taken ++ w.form) w.behind (file_on s t file so_far.goes.kept has) w.at);
+          let w : Whole IsGathered es file taken ahead middle = so_far.tells.is file taken ahead has at in
+          let g : Gathers es w.form = w.form_is in
+          halts_as (PartStops (firsts (added g.parts)) (length file) (length (taken ++ w.form)) w.behind) (BodyStops (length file) (length taken) ahead) file fault
+          (λ f h. record { body = w.form; behind = w.behind; parts = g.parts; parts_are = g.parts_are; once = g.once; whole = w.front; stops = subst (λ i. PartStops (firsts (added g.parts)) (length file) i w.behind f) (length-append taken w.form) h })
+          ((reads (added g.parts) g.keys_are).tells.is file (taken ++ w.form) w.behind (file_on s t file so_far.goes.kept has) w.at);
     };
   })
 
@@ -164,14 +163,14 @@ module _ {s t : Option Stored} {n m : ℕ} {old middle : Stage} (begins : Reads 
     goes = goes_on begins.goes p.goes;
     caused = cause_on fault n m k begins.goes.rises p.caused;
     tells = λ file has at.
-      let w : Whole HeadRead tt file [] file middle = begins.tells.is file [] file has at in
-      let v = w.form_is in
-      let long : length w.form ≡ 9 = ap length v.2 in
-      halts_as (BodyStops (length file) (length ([] ++ w.form)) w.behind) (FileStops file) file fault
-      (λ f h.
+        let w : Whole HeadRead tt file [] file middle = begins.tells.is file [] file has at in
+        let v = w.form_is in
+        let long : length w.form ≡ 9 = ap length v.2 in
+        halts_as (BodyStops (length file) (length ([] ++ w.form)) w.behind) (FileStops file) file fault
+        (λ f h.
         let b : Begun file = begun v.0 file w.form h.body h.behind h.parts v.1 v.2 h.parts_are h.once (w.front ∙ ap (λ z. w.form ++ z) h.whole) in
         FileStops.Part b (subst (λ i. PartStops (firsts (added h.parts)) (length file) (i + length h.body) h.behind f) long h.stops))
-      (p.tells.is file ([] ++ w.form) w.behind (file_on s t file begins.goes.kept has) w.at);
+        (p.tells.is file ([] ++ w.form) w.behind (file_on s t file begins.goes.kept has) w.at);
   })
 
   module _ {S : Type 0} {u : Option Stored} {k : ℕ} {here : Stage} (keys : HashMap Bytes Value S) (body : Reads (BodyRead {S = S}) BodyStops (Ok keys) t u m k middle here) where
@@ -180,22 +179,22 @@ module _ {s t : Option Stored} {n m : ℕ} {old middle : Stage} (begins : Reads 
       goes = goes_on begins.goes (goes_on body.goes p.goes);
       caused = cause_on fault n m j begins.goes.rises (cause_on fault m k j body.goes.rises p.caused);
       tells = λ file has at.
-        let w : Whole HeadRead tt file [] file middle = begins.tells.is file [] file has at in
-        let has' : HasFile t file = file_on s t file begins.goes.kept has in
-        let x : Whole (BodyRead {S = S}) keys file ([] ++ w.form) w.behind here = body.tells.is file ([] ++ w.form) w.behind has' w.at in
-        let h = w.form_is in
-        let y = x.form_is in
-        let g : Gathers keys.entries y.0 = y.1 in
-        let sum_is : here.cursor.sum ≡ crc (summed h.0 y.0) = x.at.sum ∙ ap crc (summed_is h.0 w.form x.form y.0 h.2 y.2) in
-        let form_long : length w.form ≡ 9 = ap length h.2 in
-        let two_long : length x.form ≡ length y.0 + 1 = ap length y.2 ∙ length-append y.0 (0xFF ∷ []) in
-        let both = length-append ([] ++ w.form) x.form in
-        let long : length (([] ++ w.form) ++ x.form) ≡ 10 + length y.0 = omega (arith, both, form_long, two_long) in
-        let whole : file ≡ w.form ++ (y.0 ++ 0xFF ∷ x.behind) = w.front ∙ ap (λ z. w.form ++ z) (x.front ∙ ap (λ z. z ++ x.behind) y.2 ∙ append_assoc y.0 (0xFF ∷ []) x.behind) in
-        let b : Begun file = begun h.0 file w.form y.0 (0xFF ∷ x.behind) g.parts h.1 h.2 g.parts_are g.once whole in
-        halts_as (SumStops here.cursor.sum (length file) (length (([] ++ w.form) ++ x.form)) x.behind) (FileStops file) file fault
-        (λ f q. FileStops.End b x.behind refl (subst (λ i. SumStops (crc (summed h.0 y.0)) (length file) i x.behind f) long (subst (λ i. SumStops i (length file) (length (([] ++ w.form) ++ x.form)) x.behind f) sum_is q)))
-        (p.tells file (([] ++ w.form) ++ x.form) x.behind (file_on t u file body.goes.kept has') x.at);
+          let w : Whole HeadRead tt file [] file middle = begins.tells.is file [] file has at in
+          let has' : HasFile t file = file_on s t file begins.goes.kept has in
+          let x : Whole (BodyRead {S = S}) keys file ([] ++ w.form) w.behind here = body.tells.is file ([] ++ w.form) w.behind has' w.at in
+          let h = w.form_is in
+          let y = x.form_is in
+          let g : Gathers keys.entries y.0 = y.1 in
+          let sum_is : here.cursor.sum ≡ crc (summed h.0 y.0) = x.at.sum ∙ ap crc (summed_is h.0 w.form x.form y.0 h.2 y.2) in
+          let form_long : length w.form ≡ 9 = ap length h.2 in
+          let two_long : length x.form ≡ length y.0 + 1 = ap length y.2 ∙ length-append y.0 (0xFF ∷ []) in
+          let both = length-append ([] ++ w.form) x.form in
+          let long : length (([] ++ w.form) ++ x.form) ≡ 10 + length y.0 = omega (arith, both, form_long, two_long) in
+          let whole : file ≡ w.form ++ (y.0 ++ 0xFF ∷ x.behind) = w.front ∙ ap (λ z. w.form ++ z) (x.front ∙ ap (λ z. z ++ x.behind) y.2 ∙ append_assoc y.0 (0xFF ∷ []) x.behind) in
+          let b : Begun file = begun h.0 file w.form y.0 (0xFF ∷ x.behind) g.parts h.1 h.2 g.parts_are g.once whole in
+          halts_as (SumStops here.cursor.sum (length file) (length (([] ++ w.form) ++ x.form)) x.behind) (FileStops file) file fault
+          (λ f q. FileStops.End b x.behind refl (subst (λ i. SumStops (crc (summed h.0 y.0)) (length file) i x.behind f) long (subst (λ i. SumStops i (length file) (length (([] ++ w.form) ++ x.form)) x.behind f) sum_is q)))
+          (p.tells file (([] ++ w.form) ++ x.form) x.behind (file_on t u file body.goes.kept has') x.at);
     })
 
     pub file_whole : {v : Option Stored} {j : ℕ} {new : Stage} → Ended (Ok tt) u v k j here new → ReadsFile (Ok keys) s v n j old new
@@ -203,11 +202,11 @@ module _ {s t : Option Stored} {n m : ℕ} {old middle : Stage} (begins : Reads 
       goes = goes_on begins.goes (goes_on body.goes p.goes);
       caused = tt;
       tells = λ file has at.
-        let w : Whole HeadRead tt file [] file middle = begins.tells.is file [] file has at in
-        let has' : HasFile t file = file_on s t file begins.goes.kept has in
-        let x : Whole (BodyRead {S = S}) keys file ([] ++ w.form) w.behind here = body.tells.is file ([] ++ w.form) w.behind has' w.at in
-        let h = w.form_is in
-        let y = x.form_is in
-        let e : EndRead (Ok tt) here.cursor.sum file (([] ++ w.form) ++ x.form) x.behind = p.tells file (([] ++ w.form) ++ x.form) x.behind (file_on t u file body.goes.kept has') x.at in
-        spells h.0 file w.form x.form x.behind y.0 keys.entries e.0 here.cursor.sum h.1 h.2 y.2 y.1 x.at.whole x.at.sum e.1 e.2;
+          let w : Whole HeadRead tt file [] file middle = begins.tells.is file [] file has at in
+          let has' : HasFile t file = file_on s t file begins.goes.kept has in
+          let x : Whole (BodyRead {S = S}) keys file ([] ++ w.form) w.behind here = body.tells.is file ([] ++ w.form) w.behind has' w.at in
+          let h = w.form_is in
+          let y = x.form_is in
+          let e : EndRead (Ok tt) here.cursor.sum file (([] ++ w.form) ++ x.form) x.behind = p.tells file (([] ++ w.form) ++ x.form) x.behind (file_on t u file body.goes.kept has') x.at in
+          spells h.0 file w.form x.form x.behind y.0 keys.entries e.0 here.cursor.sum h.1 h.2 y.2 y.1 x.at.whole x.at.sum e.1 e.2;
     }

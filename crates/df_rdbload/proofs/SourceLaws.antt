@@ -1,20 +1,18 @@
 -- What a cursor takes is taken of the file, and what is read on stands ahead.
-use Rattle.std.proofs.Common.{◌≡◌, ℕ, ◌+◌, ◌-◌, ◌^◌, ◌<◌, ◌≤◌, inl, inr, Bool, true, false, cond, [], ◌∷◌, ◌++◌, length, take, drop, refl, sym, ap, subst, ◌∙◌, arith, append_assoc, append-nil, length-append}
-use Rattle.std.specs.Prelude.{Option, Some, None, Result, Ok, Err, ◌⊎◌, min}
-use Rattle.std.proofs.lemmas.Grind.{common_steps}
-use Rattle.std.proofs.lemmas.List.{drop-drop, length-drop}
+use Rattle.std.proofs.Common.{◌≡◌, ℕ, ◌+◌, ◌-◌, ◌^◌, ◌<◌, ◌≤◌, inl, inr, Bool, true, false, cond, [], ◌∷◌, ◌++◌, length, drop, refl, sym, ap, subst, ◌∙◌, arith, append_assoc, length-append}
+use Rattle.std.specs.Prelude.{Option, Result, Ok, Err}
 use Rattle.df_model.specs.Values.{Bytes}
-use Rattle.df_outside.specs.Disks.{Stored, Told, Holds, IsPast}
+use Rattle.df_outside.specs.Disks.{Stored}
 use Rattle.df_rdbcore.specs.Crc.{crc_from}
 use Rattle.df_rdbcore.specs.Texts.{IsLength, IsText}
-use Rattle.df_rdbcore.specs.Seen.{BeginsNoLength, BeginsNoText, BeginsCompressed, BeginsTooLong, AwaitsLength, AwaitsText}
-use Rattle.df_rdbcore.specs.Reading.{Stand, Takes, TakesByte, TakesLength, TakesText, LengthFault, TextFault, place_of}
+use Rattle.df_rdbcore.specs.Seen.{BeginsNoLength, BeginsNoText, BeginsCompressed, BeginsTooLong}
+use Rattle.df_rdbcore.specs.Reading.{Stand, Takes, LengthFault, TextFault, place_of}
 use Rattle.df_rdbcore.proofs.CrcLaws.{crc_append}
 use Rattle.df_rdbcore.specs.declared.fault.LoadFault.{LoadFault}
 use Rattle.df_rdbcore.specs.declared.fault.LoadFault.TheVariants as faults
 use Rattle.df_rdbload.specs.Stops.{Stops, Ends, LengthStops, TextStops}
-use Rattle.df_rdbload.specs.Sources.{Stage, IsAt, HasFile, HasCause, IsCaused, Goes, Whole, Halts, Tells, Reads, room, reads_left, IsByte, ByteStops, SameReading, ReadsOn, HasRest, Reading, EndIs, SeesEnd}
-use Rattle.df_rdbload.proofs.Steps.{kept_none, goes_none, goes_on, cause_on, halts_as, halts_in, file_on, whole_none, reads_join, reads_stops, reads_none, Lifts}
+use Rattle.df_rdbload.specs.Sources.{Stage, IsAt, HasCause, Goes, Whole, Halts, Reads, reads_left, SameReading, Reading, SeesEnd}
+use Rattle.df_rdbload.proofs.Steps.{kept_none, goes_on, halts_in, file_on, whole_none, reads_join, reads_stops, Lifts}
 
 -- ---- nothing taken
 
@@ -72,8 +70,8 @@ reads_taken P S a form s n old new is t same = record {
   caused = tt;
   tells = record {
     is = λ file taken ahead has at.
-      let r : (behind : Bytes) × (ahead ≡ form ++ behind) × IsAt file (taken ++ form) behind new = taken_at form file taken ahead old new t same at in
-      record { form = form; behind = r.0; form_is = is; front = r.1; at = r.2 };
+        let r : (behind : Bytes) × (ahead ≡ form ++ behind) × IsAt file (taken ++ form) behind new = taken_at form file taken ahead old new t same at in
+        record { form = form; behind = r.0; form_is = is; front = r.1; at = r.2 };
   };
 }
 
@@ -219,10 +217,10 @@ reads_ends P S s t n m old middle new fault stops e same r is = record {
   caused = subst (λ f. HasCause f n m) (sym is) tt;
   tells = record {
     is = λ file taken ahead has at.
-      let end : IsAt file taken ahead new × (new.cursor.rest ≡ ahead) × (new.next ≡ place_of (length file)) = r.tells file taken ahead has (same_stage file taken ahead old middle e same at) in
-      let all : old.cursor.rest ≡ ahead = sym (r.left.0 ∙ ap (λ (c : Stand). c.rest) e) ∙ end.1 in
-      let ends : Ends (length file) fault = is ∙ ap faults.Truncated end.2 in
-      halts_in (S (length file) (length taken) ahead) file fault (subst (λ z. S (length file) (length taken) z fault) all (stops (length file) (length taken) fault ends));
+        let end : IsAt file taken ahead new × (new.cursor.rest ≡ ahead) × (new.next ≡ place_of (length file)) = r.tells file taken ahead has (same_stage file taken ahead old middle e same at) in
+        let all : old.cursor.rest ≡ ahead = sym (r.left.0 ∙ ap (λ (c : Stand). c.rest) e) ∙ end.1 in
+        let ends : Ends (length file) fault = is ∙ ap faults.Truncated end.2 in
+        halts_in (S (length file) (length taken) ahead) file fault (subst (λ z. S (length file) (length taken) z fault) all (stops (length file) (length taken) fault ends));
   };
 }
 
@@ -266,8 +264,8 @@ module _ {s t : Option Stored} {n m : ℕ} {old middle : Stage} (so_far : Reads 
     goes = goes_on so_far.goes (goes_taken (b ∷ []) t m middle new takes same);
     caused = tt;
     tells = λ file taken ahead has at.
-      let w : Whole IsNothing tt file taken ahead middle = so_far.tells.is file taken ahead has at in
-      some ahead w.form (new.cursor.rest) (drop middle.next file) (w.front ∙ ap (λ z. w.form ++ z) (sym w.at.left ∙ ap (λ z. z ++ drop middle.next file) takes.rest));
+        let w : Whole IsNothing tt file taken ahead middle = so_far.tells.is file taken ahead has at in
+        some ahead w.form (new.cursor.rest) (drop middle.next file) (w.front ∙ ap (λ z. w.form ++ z) (sym w.at.left ∙ ap (λ z. z ++ drop middle.next file) takes.rest));
   }
     where
       some : (ahead form rest more : Bytes) → ahead ≡ form ++ (((b ∷ []) ++ rest) ++ more) → 0 < length ahead
@@ -284,11 +282,11 @@ module _ {s t : Option Stored} {n m : ℕ} {old middle : Stage} (so_far : Reads 
     goes = goes_on so_far.goes (goes_on (goes_same t m middle here e same) r.goes);
     caused = tt;
     tells = λ file taken ahead has at.
-      let w : Whole IsNothing tt file taken ahead middle = so_far.tells.is file taken ahead has at in
-      let end : IsAt file (taken ++ w.form) w.behind new × (new.cursor.rest ≡ w.behind) × (new.next ≡ place_of (length file)) =
-      r.tells file (taken ++ w.form) w.behind (file_on s t file so_far.goes.kept has) (same_stage file (taken ++ w.form) w.behind middle here e same w.at) in
-      let rest : new.cursor.rest ≡ [] = r.left.0 ∙ ap (λ (c : Stand). c.rest) e ∙ none in
-      w.front ∙ ap (λ z. w.form ++ z) (sym end.1 ∙ rest) ∙ nothing_more w.form [] w.form_is refl;
+        let w : Whole IsNothing tt file taken ahead middle = so_far.tells.is file taken ahead has at in
+        let end : IsAt file (taken ++ w.form) w.behind new × (new.cursor.rest ≡ w.behind) × (new.next ≡ place_of (length file)) =
+        r.tells file (taken ++ w.form) w.behind (file_on s t file so_far.goes.kept has) (same_stage file (taken ++ w.form) w.behind middle here e same w.at) in
+        let rest : new.cursor.rest ≡ [] = r.left.0 ∙ ap (λ (c : Stand). c.rest) e ∙ none in
+        w.front ∙ ap (λ z. w.form ++ z) (sym end.1 ∙ rest) ∙ nothing_more w.form [] w.form_is refl;
   }
 
 -- what is left to read falls

@@ -1,6 +1,6 @@
 -- One call after another: what both of them came to.
-use Rattle.std.proofs.Common.{◌≡◌, ℕ, ◌+◌, ◌<◌, ◌≤◌, inl, inr, true, [], ◌++◌, length, refl, sym, ap, subst, ◌∙◌, arith, append_assoc, append-nil, length-append}
-use Rattle.std.specs.Prelude.{Option, Some, None, Result, Ok, Err, ◌⊎◌}
+use Rattle.std.proofs.Common.{◌≡◌, ℕ, ◌+◌, inl, inr, [], ◌++◌, length, refl, sym, ap, subst, ◌∙◌, arith, append_assoc, append-nil, length-append}
+use Rattle.std.specs.Prelude.{Option, Some, None, Result, Ok, Err}
 use Rattle.std.specs.Result.{IsErrAnd}
 use Rattle.std.proofs.lemmas.Result.{err_from_is_err_and}
 use Rattle.df_model.specs.Values.{Bytes}
@@ -9,7 +9,7 @@ use Rattle.df_rdbcore.specs.Reading.{place_of}
 use Rattle.df_rdbcore.specs.declared.fault.LoadFault.{LoadFault}
 use Rattle.df_rdbcore.specs.declared.fault.LoadFault.TheVariants as faults
 use Rattle.df_rdbload.specs.Stops.{Stops}
-use Rattle.df_rdbload.specs.Sources.{Stage, IsAt, HasFile, HasNone, StillCounts, HasCause, IsCaused, Goes, Whole, Halts, Outcome, Tells, Reads}
+use Rattle.df_rdbload.specs.Sources.{Stage, IsAt, HasFile, HasNone, StillCounts, HasCause, Goes, Whole, Halts, Tells, Reads}
 
 -- ---- the disk
 
@@ -130,17 +130,17 @@ pub tells_join : {A B C : Type 0} {P : Bytes → A → Type 0} {Q : Bytes → B 
     → Told s t (λ x y. y ≡ x) → Tells P S (Ok a) s old middle → Tells Q S' (Ok b) t middle new → ((form more : Bytes) → P form a → Q more b → R (form ++ more) c) → Tells R T (Ok c) s old new
 tells_join {P = P} {Q = Q} {a = a} {b = b} {s = s} {t = t} {middle = middle} {new = new} R T c kept p q r = record {
   is = λ file taken ahead has at.
-    let w : Whole P a file taken ahead middle = p.is file taken ahead has at in
-    let v : Whole Q b file (taken ++ w.form) w.behind new = q.is file (taken ++ w.form) w.behind (file_on s t file kept has) w.at in
-    whole_join R c w v (r w.form v.form w.form_is v.form_is);
+      let w : Whole P a file taken ahead middle = p.is file taken ahead has at in
+      let v : Whole Q b file (taken ++ w.form) w.behind new = q.is file (taken ++ w.form) w.behind (file_on s t file kept has) w.at in
+      whole_join R c w v (r w.form v.form w.form_is v.form_is);
 }
 
 pub tells_as : {A C : Type 0} {P : Bytes → A → Type 0} {S : Stops} {a : A} {s : Option Stored} {old new : Stage} (R : Bytes → C → Type 0) (T : Stops) (c : C)
     → Tells P S (Ok a) s old new → ((form : Bytes) → P form a → R form c) → Tells R T (Ok c) s old new
 tells_as {P = P} {a = a} {new = new} R T c p r = record {
   is = λ file taken ahead has at.
-    let w : Whole P a file taken ahead new = p.is file taken ahead has at in
-    whole_as R c w (r w.form w.form_is);
+      let w : Whole P a file taken ahead new = p.is file taken ahead has at in
+      whole_as R c w (r w.form w.form_is);
 }
 
 -- the later call stops, where what it needs may rest on what was read before
@@ -148,25 +148,25 @@ pub tells_stops : {A B C : Type 0} {P : Bytes → A → Type 0} {Q : Bytes → B
     → Told s t (λ x y. y ≡ x) → Tells P S (Ok a) s old middle → Tells Q S' (Err fault) t middle new → Lifts P a S' T old → Tells R T (Err fault) s old new
 tells_stops {P = P} {S' = S'} {a = a} {fault = fault} {s = s} {t = t} {middle = middle} R T kept p q lift = record {
   is = λ file taken ahead has at.
-    let w : Whole P a file taken ahead middle = p.is file taken ahead has at in
-    halts_as (S' (length file) (length (taken ++ w.form)) w.behind) (T (length file) (length taken) ahead) file fault
-    (λ f h. lift (length file) (length taken) ahead w.form w.behind f at.place w.form_is w.front (subst (λ n. S' (length file) n w.behind f) (length-append taken w.form) h))
-    (q.is file (taken ++ w.form) w.behind (file_on s t file kept has) w.at);
+      let w : Whole P a file taken ahead middle = p.is file taken ahead has at in
+      halts_as (S' (length file) (length (taken ++ w.form)) w.behind) (T (length file) (length taken) ahead) file fault
+      (λ f h. lift (length file) (length taken) ahead w.form w.behind f at.place w.form_is w.front (subst (λ n. S' (length file) n w.behind f) (length-append taken w.form) h))
+      (q.is file (taken ++ w.form) w.behind (file_on s t file kept has) w.at);
 }
 
 pub tells_stop : {A C : Type 0} {P : Bytes → A → Type 0} {S : Stops} {fault : LoadFault} {s : Option Stored} {old new : Stage} (R : Bytes → C → Type 0) (T : Stops)
     → Tells P S (Err fault) s old new → ((size at : ℕ) (rest : Bytes) (f : LoadFault) → old.cursor.place ≡ place_of at → S size at rest f → T size at rest f) → Tells R T (Err fault) s old new
 tells_stop {S = S} {fault = fault} R T p lift = record {
   is = λ file taken ahead has at.
-    halts_as (S (length file) (length taken) ahead) (T (length file) (length taken) ahead) file fault (λ f h. lift (length file) (length taken) ahead f at.place h) (p.is file taken ahead has at);
+      halts_as (S (length file) (length taken) ahead) (T (length file) (length taken) ahead) file fault (λ f h. lift (length file) (length taken) ahead f at.place h) (p.is file taken ahead has at);
 }
 
 pub tells_refuse : {A C : Type 0} {P : Bytes → A → Type 0} {S : Stops} {a : A} {s : Option Stored} {old new : Stage} (R : Bytes → C → Type 0) (T : Stops) (fault : LoadFault)
     → Tells P S (Ok a) s old new → Faults P a fault T old → Tells R T (Err fault) s old new
 tells_refuse {P = P} {a = a} {new = new} R T fault p is = record {
   is = λ file taken ahead has at.
-    let w : Whole P a file taken ahead new = p.is file taken ahead has at in
-    halts_in (T (length file) (length taken) ahead) file fault (is (length file) (length taken) ahead w.form w.behind at.place w.form_is w.front);
+      let w : Whole P a file taken ahead new = p.is file taken ahead has at in
+      halts_in (T (length file) (length taken) ahead) file fault (is (length file) (length taken) ahead w.form w.behind at.place w.form_is w.front);
 }
 
 pub tells_no_memory : {C : Type 0} (R : Bytes → C → Type 0) (T : Stops) (s : Option Stored) (old new : Stage) → Tells R T (Err faults.NoMemory) s old new

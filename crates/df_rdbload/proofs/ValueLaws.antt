@@ -1,15 +1,12 @@
 -- Values by their kinds, and parts by their first bytes.
-use Rattle.std.proofs.Common.{◌≡◌, ◌≢◌, ℕ, zero, suc, ◌+◌, ◌<◌, ◌≤◌, inl, inr, Bool, true, false, List, [], ◌∷◌, ◌++◌, length, refl, sym, ap, subst, ◌∙◌, arith}
-use Rattle.std.specs.Prelude.{◌⊎◌, None, nat_lt}
+use Rattle.std.proofs.Common.{◌≡◌, ℕ, zero, suc, ◌<◌, ◌≤◌, inl, inr, Bool, true, false, List, ◌++◌, length, refl, sym, subst, arith}
 use Rattle.std.specs.Bool.{OnTrue, OnFalse}
-use Rattle.df_model.specs.Values.{Bytes, Value}
-use Rattle.df_rdbcore.specs.Texts.{IsLength, IsText}
-use Rattle.df_rdbcore.specs.Parts.{Both, InTurn, Counted}
-use Rattle.df_rdbcore.specs.Reading.{place_of}
+use Rattle.df_model.specs.Values.{Bytes}
+use Rattle.df_rdbcore.specs.Texts.{IsLength}
+use Rattle.df_rdbcore.specs.Parts.{InTurn, Counted}
 use Rattle.df_rdbcore.specs.declared.fault.LoadFault.{LoadFault}
-use Rattle.df_rdbcore.specs.declared.fault.LoadFault.TheVariants as faults
 use Rattle.df_rdbload.specs.Stops.{CountStops, ElementsStop, ValueStops}
-use Rattle.df_rdbload.specs.FileStops.{HoldsKey, IsUnread, IsMark, PassedStops}
+use Rattle.df_rdbload.specs.FileStops.{HoldsKey, IsMark, PassedStops}
 use Rattle.df_rdbload.specs.Sources.{HasCause}
 use Rattle.df_rdbload.specs.Entries.{Refuses}
 

@@ -1,5 +1,5 @@
 use Rattle.df_rdbload.proofs.Steps.{err_is}
-use Rattle.std.proofs.Common.{◌≡◌, inl, inr, refl, sym, arith}
+use Rattle.std.proofs.Common.{inl, inr, arith}
 use Rattle.df_rdbload.proofs.EndLaws.{sum_wrong, end_fails, end_after, end_whole, end_short}
 use Rattle.df_rdbload.proofs.ValueLaws.{at_true, at_false}
 use Rattle.df_rdbload.proofs.end.end.Goals as goal

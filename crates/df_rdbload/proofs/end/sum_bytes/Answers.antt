@@ -1,4 +1,4 @@
-use Rattle.std.proofs.Common.{◌≡◌, ◌∙◌, ◌+◌, length, take, refl, arith}
+use Rattle.std.proofs.Common.{◌∙◌, ◌+◌, refl, arith}
 use Rattle.std.proofs.Math.ListN.{set}
 use Rattle.df_rdbload.specs.Entries.{AreEight, EightStop}
 use Rattle.df_rdbload.proofs.Steps.{err_is, reads_none, reads_as, reads_join, reads_stops}

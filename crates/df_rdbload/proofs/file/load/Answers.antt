@@ -1,6 +1,6 @@
 use Rattle.std.proofs.Common.{◌∙◌, sym, subst}
 use Rattle.df_rdbload.specs.Loads.{HasLoaded}
-use Rattle.df_rdbload.proofs.Steps.{err_is, kept_on}
+use Rattle.df_rdbload.proofs.Steps.{err_is}
 use Rattle.df_rdbload.proofs.LoadLaws.{none_first, none_later, keys_loaded, refused_first, refused_later}
 use Rattle.df_rdbload.proofs.file.load.Goals as goal
 

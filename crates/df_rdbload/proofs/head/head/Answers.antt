@@ -1,8 +1,8 @@
-use Rattle.std.proofs.Common.{◌∙◌, ◌++◌, true, false, refl, ap, append_assoc}
+use Rattle.std.proofs.Common.{◌∙◌, ◌++◌, false, refl, ap, append_assoc}
 use Rattle.df_rdbcore.specs.declared.fault.LoadFault.TheVariants as faults
 use Rattle.df_rdbload.specs.FileStops.{HeadStops}
 use Rattle.df_rdbload.specs.Entries.{HeadRead}
-use Rattle.df_rdbload.proofs.Steps.{err_is, reads_as, reads_join, reads_stop, reads_stops, reads_refuse}
+use Rattle.df_rdbload.proofs.Steps.{err_is, reads_join, reads_stop, reads_stops, reads_refuse}
 use Rattle.df_rdbload.proofs.SourceLaws.{Never}
 use Rattle.df_rdbload.proofs.HeadLaws.{MagicVersion, magic_stops, magic_other, version_stops, version_other, head_read}
 use Rattle.df_rdbload.proofs.head.head.Goals as goal

@@ -1,6 +1,5 @@
-use Rattle.std.proofs.Common.{◌≡◌, ℕ, ◌-◌, ◌+◌, ◌/◌, ◌%◌, ◌<◌, ◌≤◌, inl, inr, Bool, true, false, refl, arith}
+use Rattle.std.proofs.Common.{◌≡◌, ℕ, ◌-◌, ◌<◌, ◌≤◌, inl, inr, Bool, true, false, refl, arith}
 use Rattle.std.specs.Prelude.{nat_le}
-use Rattle.df_rdbload.specs.FileStops.{IsVersion}
 use Rattle.df_rdbload.specs.Entries.{IsLast}
 use Rattle.df_rdbload.proofs.head.is_read.Goals as goal
 

@@ -1,8 +1,8 @@
-use Rattle.std.proofs.Common.{◌≡◌, [], ◌∷◌, true, false, inl, inr, refl, sym, ap, subst, ◌∙◌, arith}
-use Rattle.df_rdbload.specs.Entries.{IsLiteral, VersionRead, VersionStops}
+use Rattle.std.proofs.Common.{false, inl, inr}
+use Rattle.df_rdbload.specs.Entries.{VersionRead, VersionStops}
 use Rattle.df_rdbload.proofs.Steps.{err_is, reads_as, reads_join, reads_stop, reads_stops}
 use Rattle.df_rdbload.proofs.SourceLaws.{Never}
-use Rattle.df_rdbload.proofs.HeadLaws.{zeros, zeros_stop, zeros_other, AreTens, tens_on, tens_stop, tens_other, ones_stop, version_read}
+use Rattle.df_rdbload.proofs.HeadLaws.{zeros_stop, zeros_other, AreTens, tens_on, tens_stop, tens_other, ones_stop, version_read}
 use Rattle.df_rdbload.proofs.ValueLaws.{at_true, at_false}
 use Rattle.df_rdbload.proofs.head.version.Goals as goal
 

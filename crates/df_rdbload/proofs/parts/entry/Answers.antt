@@ -1,11 +1,11 @@
-use Rattle.std.proofs.Common.{◌≡◌, ◌∙◌, ◌++◌, true, false, refl, sym, ap, subst}
+use Rattle.std.proofs.Common.{◌∙◌, refl, sym, ap}
 use Rattle.df_rdbcore.specs.Parts.{firsts}
 use Rattle.df_rdbcore.specs.declared.fault.LoadFault.TheVariants as faults
 use Rattle.df_rdbcore.specs.declared.fault.Twice.TheVariants as twice
 use Rattle.df_values.specs.Seen.{seen}
 use Rattle.df_rdbload.specs.FileStops.{EntryStops}
 use Rattle.df_rdbload.specs.Entries.{EntryRead}
-use Rattle.df_rdbload.proofs.Steps.{err_is, goes_on, reads_as, reads_join, reads_stop, reads_stops, reads_refuse, reads_no_memory}
+use Rattle.df_rdbload.proofs.Steps.{err_is, goes_on, reads_join, reads_stop, reads_stops, reads_refuse, reads_no_memory}
 use Rattle.df_rdbload.proofs.KeyLaws.{key_again, key_new, key_added}
 use Rattle.df_rdbload.proofs.parts.entry.Goals as goal
 
@@ -16,8 +16,8 @@ pub returns-then-contains_key : goal.returns-then-contains_key
 returns-then-contains_key g c read same =
     reads_refuse (EntryRead c.args.kind read c.args.keys.now.entries) (EntryStops (firsts read) c.args.kind c.args.begin) (faults.Duplicate twice.Key c.place-at.result) tt c.in_ok-key.ensures
     (λ size at rest form behind place is whole. EntryStops.Again
-        (record { form = form; behind = behind; text = c.in_ok-key.key; form_is = is; whole = whole; known = key_again read c.args.keys.now.entries c.in_ok-key.key same (sym c.contains_key.ensures ∙ c.if-contains_key.true) })
-        (ap (faults.Duplicate twice.Key) (c.place-at.ensures ∙ place)))
+    (record { form = form; behind = behind; text = c.in_ok-key.key; form_is = is; whole = whole; known = key_again read c.args.keys.now.entries c.in_ok-key.key same (sym c.contains_key.ensures ∙ c.if-contains_key.true) })
+    (ap (faults.Duplicate twice.Key) (c.place-at.ensures ∙ place)))
 
 pub returns-in_err-held : goal.returns-in_err-held
 returns-in_err-held g c read same =

@@ -1,4 +1,4 @@
-use Rattle.std.proofs.Common.{◌≡◌, ℕ, ◌<◌, ◌≤◌, true, false, inl, inr, arith}
+use Rattle.std.proofs.Common.{◌≡◌, ℕ, ◌<◌, ◌≤◌, true, false, arith}
 use Rattle.std.specs.Prelude.{nat_lt}
 use Rattle.df_rdbload.proofs.ValueLaws.{low_holds, on_true, on_false, no_high}
 use Rattle.df_rdbload.proofs.parts.holds_key.Goals as goal

@@ -1,10 +1,10 @@
-use Rattle.std.proofs.Common.{◌≡◌, ◌∙◌, [], ◌∷◌, ◌++◌, true, false, refl, ap, arith}
+use Rattle.std.proofs.Common.{◌∙◌, [], ◌∷◌, true, false, refl, ap, arith}
 use Rattle.df_rdbcore.specs.Parts.{firsts}
 use Rattle.df_rdbload.specs.FileStops.{PartStops}
 use Rattle.df_rdbload.specs.Entries.{PartRead}
 use Rattle.df_rdbload.proofs.Steps.{err_is, reads_as, reads_join, reads_stop, reads_stops}
 use Rattle.df_rdbload.proofs.PartLaws.{entries_in, entry_stops, passed_stops, entry_read, passed_read}
-use Rattle.df_rdbload.proofs.ValueLaws.{at_true, at_false}
+use Rattle.df_rdbload.proofs.ValueLaws.{at_true}
 use Rattle.df_rdbload.proofs.parts.part.Goals as goal
 
 pub returns-in_err-first-clause-reads : goal.returns-in_err-first-clause-reads

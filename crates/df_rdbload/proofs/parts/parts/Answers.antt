@@ -1,4 +1,4 @@
-use Rattle.std.proofs.Common.{◌≡◌, [], refl, sym, ap, subst}
+use Rattle.std.proofs.Common.{◌≡◌, [], refl, sym, subst}
 use Rattle.df_rdbload.specs.Entries.{IsGathered, Gathers}
 use Rattle.df_rdbload.proofs.Steps.{err_is, reads_none}
 use Rattle.df_rdbload.proofs.SourceLaws.{Never}

@@ -1,6 +1,5 @@
-use Rattle.std.proofs.Common.{◌≡◌, ◌∷◌, ◌++◌, refl, ap}
-use Rattle.df_rdbcore.specs.Texts.{IsLength, IsText}
-use Rattle.df_rdbcore.specs.Parts.{Both, IsPart}
+use Rattle.std.proofs.Common.{◌∷◌, ◌++◌, refl, ap}
+use Rattle.df_rdbcore.specs.Parts.{IsPart}
 use Rattle.df_rdbload.specs.Stops.{BothStops}
 use Rattle.df_rdbload.specs.FileStops.{PassedStops}
 use Rattle.df_rdbload.specs.Entries.{PassedRead}

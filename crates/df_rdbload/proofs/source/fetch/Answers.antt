@@ -1,9 +1,7 @@
-use Rattle.std.proofs.Common.{length, take, arith, subst, sym}
-use Rattle.std.specs.Prelude.{Err}
-use Rattle.std.proofs.lemmas.List.{length-take}
+use Rattle.std.proofs.Common.{take, subst, sym}
 use Rattle.df_outside.specs.Disks.{Holds, IsPast}
 use Rattle.df_rdbload.specs.Sources.{IsCaused, Fetched}
-use Rattle.df_rdbload.proofs.Steps.{err_is, cause_on}
+use Rattle.df_rdbload.proofs.Steps.{err_is}
 use Rattle.df_rdbload.proofs.DiskLaws.{told_where, told_kept, too_much, keep_caused, grows, stays_none, file_none}
 use Rattle.df_rdbload.proofs.source.fetch.Goals as goal
 
@@ -22,9 +20,10 @@ pub returns-in_err-keep-in-Took-clause-fetched : goal.returns-in_err-keep-in-Too
 returns-in_err-keep-in-Took-clause-fetched g c =
     let k = c.in_err-keep-in-Took.ensures in
     let fault = c.in_err-keep-in-Took.field-0.0 in
-    subst (λ r. Fetched r (g.K.Disk.stored c.args.disk.now) c.args.cursor.now c.keep.new.cursor c.args.next.now c.keep.new.next) (sym (err_is _ fault c.from_residual.ensures.1))
-    (record { rest = k.err_rest; place = k.place; sum = k.sum; next_is = k.err_next },
-      too_much fault (g.K.Disk.stored c.args.disk.now) c.args.next.now (take c.in-Took.n c.read.new.buf) (told_where (λ o. Holds o c.args.next.now (take c.in-Took.n c.read.new.buf)) _ _ c.in-Took.ensures.2) k.why)
+    subst (λ r. Fetched r (g.K.Disk.stored c.args.disk.now) c.args.cursor.now c.keep.new.cursor c.args.next.now c.keep.new.next) (sym (err_is _ fault c.from_residual.ensures.1)) (
+      record { rest = k.err_rest; place = k.place; sum = k.sum; next_is = k.err_next },
+      too_much fault (g.K.Disk.stored c.args.disk.now) c.args.next.now (take c.in-Took.n c.read.new.buf) (told_where (λ o. Holds o c.args.next.now (take c.in-Took.n c.read.new.buf)) _ _ c.in-Took.ensures.2) k.why,
+    )
 
 pub returns-in_err-keep-in-Took-clause-caused : goal.returns-in_err-keep-in-Took-clause-caused
 returns-in_err-keep-in-Took-clause-caused g c =

@@ -1,5 +1,4 @@
 use Rattle.std.proofs.Common.{◌≡◌, ◌∙◌, [], ◌∷◌, ◌++◌, length, refl, sym, ap, subst, arith, length-append}
-use Rattle.df_model.specs.Values.{Bytes}
 use Rattle.df_rdbcore.specs.Texts.{IsText}
 use Rattle.df_rdbcore.specs.Parts.{InTurn}
 use Rattle.df_rdbload.specs.Stops.{Any, ElementStops, Midway}
@@ -23,7 +22,7 @@ elements-preserved g c =
     let before = c.elements.invariant.count in
     record {
       read = reads_join (InTurn IsText) Never c.push_back.new.self.items c.elements.invariant.read c.in_ok-element.ensures
-        (λ form more p q. subst (InTurn IsText (form ++ more)) (sym items) (in_turn_push IsText form more c.elements.list.items c.in_ok-element.element p q));
+          (λ form more p q. subst (InTurn IsText (form ++ more)) (sym items) (in_turn_push IsText form more c.elements.list.items c.in_ok-element.element p q));
       count = omega (arith, long, both, before);
     }
 

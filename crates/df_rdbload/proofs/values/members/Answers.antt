@@ -1,6 +1,5 @@
-use Rattle.std.proofs.Common.{◌≡◌, ◌∙◌, [], ◌∷◌, ◌++◌, length, refl, sym, ap, subst, arith, length-append, true, false}
+use Rattle.std.proofs.Common.{◌≡◌, ◌∙◌, [], ◌∷◌, ◌++◌, refl, sym, ap, arith, length-append, true, false}
 use Rattle.std.specs.Prelude.{not}
-use Rattle.df_model.specs.Values.{Bytes}
 use Rattle.df_model.specs.Members as members
 use Rattle.df_rdbcore.specs.Texts.{IsText}
 use Rattle.df_rdbcore.specs.Parts.{InTurn, NoneTwice, members_of}
@@ -57,7 +56,7 @@ returns-then-not-add g c =
     let fault = faults.Duplicate twice.Member c.args.begin in
     reads_stops (AreMembers c.args.count) (Midway IsText NoneTwice (MemberStops c.args.begin) c.args.count) _ refl c.members.invariant.read
     (reads_refuse IsText (MemberStops c.args.begin texts) fault tt c.in_ok-member.ensures
-        (λ size at rest form behind place is whole. MemberStops.Again (record { form = form; behind = behind; text = text; form_is = is; whole = whole; known = member_again texts text again }) refl))
+    (λ size at rest form behind place is whole. MemberStops.Again (record { form = form; behind = behind; text = text; form_is = is; whole = whole; known = member_again texts text again }) refl))
     (λ size at rest form behind f place is whole h. record { read = texts; front = form; behind = behind; read_are = is; fine = c.members.invariant.once; few = omega (arith, before); whole = whole; stops = h })
 
 pub returns : goal.returns

@@ -1,7 +1,7 @@
-use Rattle.std.proofs.Common.{◌≡◌, ◌∙◌, ◌<◌, ◌++◌, length, inl, inr, refl, sym, ap, subst, arith}
+use Rattle.std.proofs.Common.{length, refl, ap}
 use Rattle.df_model.specs.Values as plain
-use Rattle.df_rdbcore.specs.Texts.{IsLength, IsText}
-use Rattle.df_rdbcore.specs.Parts.{Both, InTurn, IsValue, members_of, fields_of}
+use Rattle.df_rdbcore.specs.Texts.{IsText}
+use Rattle.df_rdbcore.specs.Parts.{Both, IsValue}
 use Rattle.df_values.specs.declared.value.Value.TheVariants as values
 use Rattle.df_rdbload.specs.Stops.{ElementsStop, ValueStops}
 use Rattle.df_rdbload.specs.Entries.{IsHeld}

@@ -1,4 +1,4 @@
-use Rattle.std.proofs.Common.{◌≡◌, true, false, refl, subst, sym, arith, ◌<◌, ◌^◌}
+use Rattle.std.proofs.Common.{true, false, refl, subst, sym, arith}
 use Rattle.std.specs.Prelude.{Ok, Err}
 use Rattle.df_rdbload.specs.Sources.{Stage, Reading}
 use Rattle.df_rdbload.proofs.Steps.{err_is}
@@ -43,4 +43,4 @@ returns-in_err-fetch g c =
     let f = c.in_err-fetch.ensures in
     subst (λ r. Reading r (g.K.Disk.stored c.args.disk.now) (g.K.Disk.stored c.fetch.new.disk) (g.K.Disk.faults c.args.disk.now) (g.K.Disk.faults c.fetch.new.disk) c.args.self.now new) (sym (err_is _ fault c.from_residual.ensures.1))
     (subst (λ (z : Stage). Reading (Err fault) (g.K.Disk.stored c.args.disk.now) (g.K.Disk.stored c.fetch.new.disk) (g.K.Disk.faults c.args.disk.now) (g.K.Disk.faults c.fetch.new.disk) z new) c.self.view_is
-        (more_fails fault _ _ _ _ o new f.kept f.rises f.caused refl f.fetched.0 f.fetched.1))
+    (more_fails fault _ _ _ _ o new f.kept f.rises f.caused refl f.fetched.0 f.fetched.1))
