@@ -1,4 +1,3 @@
-pub mod WriteLaws
 pub mod AloneLaws
 pub mod PipeLaws
 pub mod ServeLaws

@@ -1,4 +1,3 @@
-pub mod Writes
 pub mod Promise
 pub mod Alone
 pub mod Serve

@@ -13,7 +13,7 @@ use Rattle.df_model.specs.declared.session.Why.{Why}
 use Rattle.df_model.specs.declared.session.Why.TheVariants as ends
 use Rattle.df_outside.specs.Faults.{Rose}
 use Rattle.df_outside.specs.Streams.{Inflow, Outflow}
-use Rattle.df_server.specs.Writes.{WroteFront}
+use Rattle.df_print.specs.Writes.{LineStatus}
 
 -- a run as it is seen from outside: its status, and its input and output before and after it
 pub record Run : Type 0 where
@@ -33,18 +33,7 @@ usage = codes "usage: dflyd serve, pipe, check FILE or gen SEED COUNT" ++ 10 ∷
 
 -- Other words: nothing is taken. The usage line is written, whole at status 2 unless a write of it failed.
 abbrev pub UsageGiven : Run → Type 0
-UsageGiven run =
-    (run.input ≡ run.input_before)
-    × (((run.status ≡ 2) × Appends run.output_before.written run.output.written usage)
-    ⊎ ((run.status ≡ 2) × WroteFront usage run.output_before run.output × Rose run.output_before.faults run.output.faults)
-    ⊎ ((run.status ≡ 4) × WroteFront usage run.output_before run.output))
-
--- the usage line was written as far as the status says
-abbrev pub UsageStatus : ℕ → Outflow → Outflow → Type 0
-UsageStatus status before now =
-    ((status ≡ 2) × Appends before.written now.written usage)
-    ⊎ ((status ≡ 2) × WroteFront usage before now × Rose before.faults now.faults)
-    ⊎ ((status ≡ 4) × WroteFront usage before now)
+UsageGiven run = (run.input ≡ run.input_before) × LineStatus usage 2 run.status run.output_before run.output
 
 -- ---- the session
 

@@ -15,7 +15,7 @@ use Rattle.df_sessions.specs.Entries.{GaveSince}
 use Rattle.df_sessions.specs.declared.rounds.Entry.{Entry}
 use Rattle.df_sessions.specs.declared.rounds.Entry.TheVariants as entries
 use Rattle.df_server.specs.Promise.{usage}
-use Rattle.df_server.specs.Writes.{WroteFront}
+use Rattle.df_print.specs.Writes.{LineStatus, WroteFront}
 
 -- ---- the words of the command line
 
@@ -46,14 +46,6 @@ pub record ServeRun : Type 0 where
   pub output_before : Outflow
   pub output : Outflow
   pub sessions : List Parted
-
--- a line was written, as far as the status says: whole at this one unless a write of it failed, or a front of it at
--- want of memory
-abbrev pub LineStatus : Bytes → ℕ → ℕ → Outflow → Outflow → Type 0
-LineStatus line wanted status before now =
-    ((status ≡ wanted) × Appends before.written now.written line)
-    ⊎ ((status ≡ wanted) × WroteFront line before now × Rose before.faults now.faults)
-    ⊎ ((status ≡ 4) × WroteFront line before now)
 
 abbrev pub LineGiven : Bytes → ℕ → ServeRun → Type 0
 LineGiven line wanted run = LineStatus line wanted run.status run.output_before run.output

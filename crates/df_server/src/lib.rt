@@ -5,7 +5,6 @@ mod pipe;
 mod program;
 mod serve_words;
 mod server;
-mod write;
 
 pub use program::offline;
 pub use server::{Ended, serve};

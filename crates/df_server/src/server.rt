@@ -2,12 +2,13 @@
 
 ghost use Rattle.std.specs.Prelude.{◌≡◌, ◌<◌, [], length, map, string_bytes, true};
 ghost use Rattle.df_outside.specs.Doors.{Hall, StaysOpen};
-ghost use Rattle.df_server.specs.Serve.{LineStatus, Opened, ServePromise, door_fault, status_for};
+ghost use Rattle.df_print.specs.Writes.{LineStatus};
+ghost use Rattle.df_server.specs.Serve.{Opened, ServePromise, door_fault, status_for};
 
 use crate::program::refuse;
 use crate::serve_words::read_port;
-use crate::write::{Written, write_all};
 use df_outside::{Disk, Done, Door, Link, Sink};
+use df_print::{Written, write_all};
 use df_sessions::{Entry, Gone, Served};
 use df_table::Table;
 use std::alloc::Global;

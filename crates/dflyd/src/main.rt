@@ -1,8 +1,7 @@
 //! The program: the real streams, the door and the words of the command line, handed to the server's calls.
 #![tactic(auto)]
 
-use df_outside::MemDisk;
-use df_real::{MioDoor, StdSink, StdSource};
+use df_real::{FileDisk, MioDoor, StdSink, StdSource};
 use df_server::{offline, serve};
 use std::alloc::AllocError;
 use std::env::{Env, VarError};
@@ -28,11 +27,14 @@ fn main(rt: HostRuntime) -> ExitCode {
     let Ok(words) = words_given(&rt) else {
         return ExitCode::from(NO_MEMORY);
     };
-    let disk = MemDisk::new(alloc, None, Vec::new(alloc));
+    let disk = FileDisk::new(rt, alloc);
     let out = StdSink::new(rt.stdout());
     if !asks_to_serve(words.as_slice()) {
         let input = StdSource::new(rt.stdin());
-        let (status, _, _, _) = offline(alloc, words.as_slice(), input, disk, out);
+        let (status, _, disk, _) = offline(alloc, words.as_slice(), input, disk, out);
+        if let Some(reason) = disk.reason() {
+            tell_disk(&rt, reason);
+        }
         return ExitCode::from(status);
     }
     let address = match address_given(&rt) {
@@ -94,6 +96,11 @@ fn tell_no_door(rt: &impl Eprint, fault: &io::Error) -> u8 {
     }
     let _ = eprintln!(rt; "dflyd: no sockets: {}", fault.kind());
     NO_DOOR
+}
+
+/// Says why the disk failed.
+fn tell_disk(rt: &impl Eprint, reason: ErrorKind) {
+    let _ = eprintln!(rt; "dflyd: can't read the file: {reason}");
 }
 
 /// Says why the door failed, before it was bound or later.

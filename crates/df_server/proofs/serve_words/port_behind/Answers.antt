@@ -4,7 +4,8 @@ use Rattle.std.proofs.lemmas.Slice.Eq.{slice_eq-Decides}
 use Rattle.std.proofs.lemmas.Bool.Decides.{Decides-eqb}
 use Rattle.df_model.specs.Values.{Bytes}
 use Rattle.df_server.specs.Serve.{IsPort, NamesPort}
-use Rattle.df_server.proofs.WordsLaws.{words_two, port_pair}
+use Rattle.df_check.proofs.WordsLaws.{words_two}
+use Rattle.df_server.proofs.WordsLaws.{port_pair}
 use Rattle.df_server.proofs.serve_words.port_behind.Goals as goal
 
 pub returns-then-eq : goal.returns-then-eq

@@ -4,7 +4,8 @@ use Rattle.std.proofs.lemmas.Slice.Eq.{slice_eq-Decides}
 use Rattle.std.proofs.lemmas.Bool.Decides.{Decides-eqb}
 use Rattle.df_model.specs.Values.{Bytes}
 use Rattle.df_server.specs.Serve.{IsServe, NamesPort}
-use Rattle.df_server.proofs.WordsLaws.{words_cons, rest_whole, serve_of}
+use Rattle.df_check.proofs.WordsLaws.{words_cons, rest_whole}
+use Rattle.df_server.proofs.WordsLaws.{serve_of}
 use Rattle.df_server.proofs.serve_words.read_port.Goals as goal
 
 pub returns-then-eq : goal.returns-then-eq

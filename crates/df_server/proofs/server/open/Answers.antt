@@ -1,5 +1,6 @@
 use Rattle.std.proofs.Common.{sym, subst, inr}
-use Rattle.df_server.specs.Serve.{Opened, LineStatus, door_fault}
+use Rattle.df_print.specs.Writes.{LineStatus}
+use Rattle.df_server.specs.Serve.{Opened, door_fault}
 use Rattle.df_server.proofs.server.open.Goals as goal
 
 pub returns-in-Ok-bind : goal.returns-in-Ok-bind

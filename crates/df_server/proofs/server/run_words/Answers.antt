@@ -1,5 +1,5 @@
 use Rattle.std.proofs.Common.{refl, sym, subst, inl, inr}
-use Rattle.df_server.specs.Serve.{LineStatus}
+use Rattle.df_print.specs.Writes.{LineStatus}
 use Rattle.df_server.specs.Promise.{usage}
 use Rattle.df_server.proofs.server.run_words.Goals as goal
 

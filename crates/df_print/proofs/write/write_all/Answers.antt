@@ -1,6 +1,6 @@
 use Rattle.df_model.specs.Values.{Bytes}
-use Rattle.df_server.proofs.WriteLaws.{wrote_more, whole_rest}
-use Rattle.df_server.proofs.write.write_all.Goals as goal
+use Rattle.df_print.proofs.WriteLaws.{wrote_more, whole_rest}
+use Rattle.df_print.proofs.write.write_all.Goals as goal
 
 pub writes-preserved : goal.writes-preserved
 writes-preserved g c =

@@ -1,6 +1,6 @@
 //! Whole pieces, written in parts.
 
-ghost use Rattle.df_server.specs.Writes.{HasWritten};
+ghost use Rattle.df_print.specs.Writes.{HasWritten};
 
 use df_outside::{Put, Sink};
 

@@ -5,7 +5,7 @@ use Rattle.std.proofs.lemmas.Grind.{common_steps}
 use Rattle.std.proofs.KnownBytes.{Appends-nil, Appends-trans}
 use Rattle.df_model.specs.Values.{Bytes}
 use Rattle.df_outside.specs.Streams.{Outflow}
-use Rattle.df_server.specs.Writes.{WroteFront}
+use Rattle.df_print.specs.Writes.{WroteFront}
 
 -- all of the piece but this rest was written
 pub record WroteBut (piece rest : Bytes) (before now : Outflow) : Type 0 where
