@@ -17,19 +17,58 @@ const SUM: usize = 17;
 /// What stands behind the head, with which fault, or none where only the sum is missing.
 const BODIES: &[(&[u8], LoadFault)] = &[
     (b"\x00\x01a\x011\xff", LoadFault::Truncated { at: 15 }),
-    (b"\xfa\x01a\xc0\x01\xfb\x01\x00\x01\x01l\x02\x01x\x01x\xff", LoadFault::Truncated { at: 26 }),
-    (b"\x00\x01a\x011\x00\x01a\x011\xff", LoadFault::Duplicate { kind: Twice::Key, at: 15 }),
-    (b"\x02\x01s\x02\x01x\x01x\xff", LoadFault::Duplicate { kind: Twice::Member, at: 9 }),
-    (b"\x04\x01h\x02\x01f\x01v\x01f\xff", LoadFault::Duplicate { kind: Twice::Field, at: 9 }),
-    (b"\x01\x01l\x00\xff", LoadFault::BadPart { kind: PartFault::Empty, at: 9 }),
-    (b"\x01\x01l\x81\x00\x00\x01\x00\x00\x00\x00\x00\x01x", LoadFault::Truncated { at: 23 }),
+    (
+        b"\xfa\x01a\xc0\x01\xfb\x01\x00\x01\x01l\x02\x01x\x01x\xff",
+        LoadFault::Truncated { at: 26 },
+    ),
+    (
+        b"\x00\x01a\x011\x00\x01a\x011\xff",
+        LoadFault::Duplicate {
+            kind: Twice::Key,
+            at: 15,
+        },
+    ),
+    (
+        b"\x02\x01s\x02\x01x\x01x\xff",
+        LoadFault::Duplicate {
+            kind: Twice::Member,
+            at: 9,
+        },
+    ),
+    (
+        b"\x04\x01h\x02\x01f\x01v\x01f\xff",
+        LoadFault::Duplicate {
+            kind: Twice::Field,
+            at: 9,
+        },
+    ),
+    (
+        b"\x01\x01l\x00\xff",
+        LoadFault::BadPart {
+            kind: PartFault::Empty,
+            at: 9,
+        },
+    ),
+    (
+        b"\x01\x01l\x81\x00\x00\x01\x00\x00\x00\x00\x00\x01x",
+        LoadFault::Truncated { at: 23 },
+    ),
     (b"\x00\x82", LoadFault::BadLength { at: 10 }),
     (b"\xfb\xc0", LoadFault::BadLength { at: 10 }),
-    (b"\xfa\x01a\xc3", LoadFault::Unsupported { code: 0xc3, at: 12 }),
+    (
+        b"\xfa\x01a\xc3",
+        LoadFault::Unsupported { code: 0xc3, at: 12 },
+    ),
     (b"\xfe\x01", LoadFault::Unsupported { code: 0xfe, at: 9 }),
     (b"\xfe\x00\x0e", LoadFault::Unsupported { code: 14, at: 11 }),
     (b"\xfe\x00\x08", LoadFault::UnknownType { code: 8, at: 11 }),
-    (b"\xff\x00\x00\x00\x00\x00\x00\x00\x00\x00", LoadFault::BadPart { kind: PartFault::After, at: 18 }),
+    (
+        b"\xff\x00\x00\x00\x00\x00\x00\x00\x00\x00",
+        LoadFault::BadPart {
+            kind: PartFault::After,
+            at: 18,
+        },
+    ),
 ];
 
 /// Heads with their faults.
@@ -58,7 +97,12 @@ fn a_file_loads_up_to_its_sum(rt: HostRuntime) -> Result<(), Fail> {
     let mut file = FILE;
     assert_eq!(rt; keys_of(rt.alloc(), &file)?, Ok(1));
     file[15] = b'2';
-    assert!(rt; matches!(keys_of(rt.alloc(), &file)?, Err(LoadFault::BadChecksum { at: 17, .. })));
+    assert!(rt;
+        matches!(
+            keys_of(rt.alloc(), &file)?,
+            Err(LoadFault::BadChecksum { at: 17, .. })
+        )
+    );
     for at in SUM..25 {
         file[at] = 0;
     }
@@ -70,7 +114,11 @@ fn a_file_loads_up_to_its_sum(rt: HostRuntime) -> Result<(), Fail> {
 fn a_file_that_is_cut_ends_too_early(rt: HostRuntime) -> Result<(), Fail> {
     for len in 0..25 {
         let fault = LoadFault::Truncated { at: len as u64 };
-        assert_eq!(rt; keys_of(rt.alloc(), &FILE[..len])?, Err(fault), "cut at {len}");
+        assert_eq!(rt;
+            keys_of(rt.alloc(), &FILE[..len])?,
+            Err(fault),
+            "cut at {len}"
+        );
     }
     Ok(())
 }
@@ -99,7 +147,8 @@ fn a_disk_may_have_no_file_or_fail(rt: HostRuntime) -> Result<(), Fail> {
     let Ok(Loaded::Keys(keys)) = load(alloc, &mut disk) else {
         return Err(Fail::from("no keys"));
     };
-    let Some(Value::Str(text)) = keys.get(b"a".as_slice()) else {
+    let key = Bin::from_slice(alloc, b"a")?;
+    let Some(Value::Str(text)) = keys.get(&key) else {
         return Err(Fail::from("no string"));
     };
     assert_eq!(rt; text.as_slice(), b"1".as_slice());
