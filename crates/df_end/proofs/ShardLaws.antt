@@ -42,7 +42,7 @@ shards_end shards K first armed p x h none keys = record {
 
 -- ---- the book's calls
 
-call-front : (known more : List Draw) (n : ℕ) → 0 < draws_of n known → call_at known n ≡ call_at (known ++ more) n
+pub call-front : (known more : List Draw) (n : ℕ) → 0 < draws_of n known → call_at known n ≡ call_at (known ++ more) n
 call-front [] more n h = absurd (omega (arith, h))
 call-front (d ∷ known) more n h = dite (ℕ_discrete d.number n)
     (λ (is : d.number ≡ n).
@@ -51,7 +51,7 @@ call-front (d ∷ known) more n h = dite (ℕ_discrete d.number n)
     ap (λ b. cond b d.call (call_at known n)) (ne_eqb d.number n ne) ∙ call-front known more n (omega (arith, h, hit-else n d.number ne))
     ∙ sym (ap (λ b. cond b d.call (call_at (known ++ more) n)) (ne_eqb d.number n ne)))
 
-known-more : (known more : List Draw) (n : ℕ) → 0 < draws_of n known → 0 < draws_of n (known ++ more)
+pub known-more : (known more : List Draw) (n : ℕ) → 0 < draws_of n known → 0 < draws_of n (known ++ more)
 known-more known more n h = omega (arith, h, total-append (λ (d : Draw). hit n d.number) known more)
 
 pub shards_take_tickets : ShardsTakeTickets
@@ -125,7 +125,7 @@ hops_are_fresh (x ∷ log) e act acts plain = (
       same,
     ))
 
-grown-acts : (log : List Entry) (e : Entry) (b : Bool) → is_note e.act ≡ b → acts_of (log ++ e ∷ []) ≡ acts_of log ++ cons_if (not b) e []
+pub grown-acts : (log : List Entry) (e : Entry) (b : Bool) → is_note e.act ≡ b → acts_of (log ++ e ∷ []) ≡ acts_of log ++ cons_if (not b) e []
 grown-acts log e b i =
     only_append (λ (y : Entry). not (is_note y.act)) log (e ∷ []) ∙ ap (λ b. acts_of log ++ cons_if (not b) e []) i
 

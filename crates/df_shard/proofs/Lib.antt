@@ -1,0 +1,10 @@
+pub mod Bare
+pub mod Tickets
+pub mod Queues
+pub mod Waits
+pub mod Leaves
+pub mod Recorded
+pub mod Shows
+pub mod Commands
+pub mod Turns
+pub mod Loads

@@ -1,0 +1,85 @@
+//! Cancel and Conclude: a call gives up its place, its intents and what is armed of it. They take no memory.
+
+ghost use Rattle.std.specs.Prelude.{◌≡◌, ◌==◌, not, map};
+ghost use Rattle.std.specs.List.{filter};
+ghost use Rattle.df_intents.specs.Holders as holders;
+ghost use Rattle.df_hops.specs.declared.message.Body.TheVariants as bodies;
+ghost use Rattle.df_hops.specs.declared.answer.AnswerBody.TheVariants as answers;
+ghost use Rattle.df_shard.specs.Holds.{wait_of};
+ghost use Rattle.df_shard.specs.Changes.{left, waiting_without};
+ghost use Rattle.df_shard.specs.Came.{with_pass};
+
+use crate::schedule::plain_answer;
+use crate::shard::Shard;
+use crate::waiting::Waiting;
+use df_book::Book;
+use df_hops::{Answer, AnswerBody, Message};
+use df_intents::Intents;
+
+fn release(intents: &mut Intents, number: u64)
+    ensures { intents.new.holders ≡ holders.without number intents.old.holders }
+{
+    if intents.holds(number) {
+        let _keys = intents.release(number);
+    }
+}
+
+fn forget(waiting: &mut Vec<Waiting>, number: u64)
+    ensures { map wait_of waiting.new.items ≡ waiting_without number (map wait_of waiting.old.items) }
+{
+    waiting.retain(|w| w.number != number);
+}
+
+impl Shard {
+    /// A call that ran nothing lets go.
+    pub fn cancel(&mut self, book: &Book, m: Message) -> Answer
+        requires book { (self.old.pass.book ≡ book.now) × (m.ticket.book ≡ book.now) }
+        requires here { (m.shard ≡ self.old.index) × (m.body ≡ bodies.Cancel) }
+        ensures book { self.new.pass.book ≡ book.now }
+        ensures left { self.new ≡ left (with_pass self.old self.new.pass) m.number }
+        ensures answered { (result.number ≡ m.number) × (result.shard ≡ m.shard) × (result.conn ≡ m.conn) }
+        ensures freed { result.body ≡ answers.Freed }
+    {
+        self.let_go(book, m)
+    }
+
+    /// A call that is done lets go.
+    pub fn conclude(&mut self, book: &Book, m: Message) -> Answer
+        requires book { (self.old.pass.book ≡ book.now) × (m.ticket.book ≡ book.now) }
+        requires here { (m.shard ≡ self.old.index) × (m.body ≡ bodies.Conclude) }
+        ensures book { self.new.pass.book ≡ book.now }
+        ensures left { self.new ≡ left (with_pass self.old self.new.pass) m.number }
+        ensures answered { (result.number ≡ m.number) × (result.shard ≡ m.shard) × (result.conn ≡ m.conn) }
+        ensures freed { result.body ≡ answers.Freed }
+    {
+        self.let_go(book, m)
+    }
+
+    fn let_go(&mut self, book: &Book, m: Message) -> Answer
+        requires book { (self.old.pass.book ≡ book.now) × (m.ticket.book ≡ book.now) }
+        requires here { m.shard ≡ self.old.index }
+        ensures book { self.new.pass.book ≡ book.now }
+        ensures left { self.new ≡ left (with_pass self.old self.new.pass) m.number }
+        ensures answered { (result.number ≡ m.number) × (result.shard ≡ m.shard) × (result.conn ≡ m.conn) }
+        ensures freed { result.body ≡ answers.Freed }
+    {
+        let Message {
+            shard,
+            conn,
+            number,
+            body: _,
+            ticket,
+        } = m;
+        self.take_ticket(book, ticket);
+        self.leave(number);
+        plain_answer(conn, shard, number, AnswerBody::Freed)
+    }
+
+    fn leave(&mut self, number: u64)
+        ensures { self.new ≡ left self.old number }
+    {
+        release(&mut self.intents, number);
+        let _place = self.queue.remove(number);
+        forget(&mut self.waiting, number);
+    }
+}
