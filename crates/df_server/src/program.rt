@@ -9,8 +9,8 @@ ghost use Rattle.df_server.specs.Promise.{Run, IsPipe, UsageGiven, PipePromise, 
 
 use crate::pipe;
 use df_check::{check, file_named};
-use df_print::{Written, write_all};
 use df_outside::{Disk, Sink, Source};
+use df_print::{Written, write_all};
 use std::alloc::Global;
 
 /// What is written where the words are no command.
