@@ -1,0 +1,9 @@
+pub mod FlagLaws
+pub mod ListLaws
+pub mod ChangeLaws
+pub mod SlotLaws
+pub mod BucketLaws
+pub mod SoundLaws
+pub mod SplitLaws
+pub mod PartLaws
+pub mod KeepLaws

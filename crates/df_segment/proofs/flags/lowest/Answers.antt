@@ -1,0 +1,9 @@
+use Rattle.std.proofs.Common.{arith, w64}
+use Rattle.std.proofs.lemmas.Nat.Bits.{bit_at-trailing_zeros}
+use Rattle.df_segment.proofs.FlagLaws.{flag_of}
+use Rattle.df_segment.proofs.flags.lowest.Goals as goal
+
+pub returns : goal.returns
+returns c =
+    let h = bit_at-trailing_zeros w64 c.args.marks (omega (arith, c.requires)) c.ranges.marks.fits in
+    flag_of c.args.marks _ h.1
