@@ -1,0 +1,4 @@
+pub mod StopLaws
+pub mod PartLaws
+pub mod FileLaws
+pub mod LargeLaws
