@@ -1,5 +1,5 @@
 -- The pipe promise: what a run of `pipe` took, wrote and answered.
-use Rattle.std.specs.Prelude.{◌≡◌, ◌⊎◌, ℕ, ◌+◌, ◌<◌, List, [], ◌∷◌, ◌++◌, length, codes, true, false}
+use Rattle.std.specs.Prelude.{◌≡◌, ◌⊎◌, ℕ, ◌+◌, ◌<◌, ◌≤◌, List, [], ◌∷◌, ◌++◌, length, codes, true, false}
 use Rattle.std.specs.Io.KnownBytes.{Appends}
 use Rattle.df_model.specs.Values.{Bytes}
 use Rattle.df_model.specs.Keyspace.{no_keys}
@@ -91,6 +91,8 @@ pub record PipeRan (end : Why) (run : Run) : Type 0 where
   pub bytes : Bytes
   pub wrote : Bytes
   pub taken : Appends run.input_before.taken run.input.taken bytes
+  -- whatever the end
+  pub bounded : length bytes ≤ INPUT_LIMIT
   pub written : Appends run.output_before.written run.output.written wrote
   pub requests : List Words
   pub rest : Bytes
