@@ -1,6 +1,6 @@
 //! What a shard does with its log.
 ghost use Rattle.std.specs.Prelude.{◌≡◌, ◌<◌};
-ghost use Rattle.df_book.specs.Logs.{BothSeen, HasRoom, IsFresh, IsPrefix};
+ghost use Rattle.df_book.specs.Logs.{BothSeen, HasRoom, IsFresh, IsPrefix, at_log};
 ghost use Rattle.df_book.specs.Draws.{Agreed, draws_of};
 ghost use Rattle.df_book.specs.Passes.{after_entry, after_ticket, met, receipt_of};
 
@@ -17,6 +17,8 @@ impl BookOf<Said, Ruling> {
         requires book { (pass.old.book ≡ self.now) × (ticket.book ≡ pass.old.book) }
         ensures taken { pass.new ≡ after_ticket pass.old ticket pass.new.seen }
         ensures seen { BothSeen pass.old.seen ticket.seen pass.new.seen }
+        // Of its own log nobody has seen more than there is.
+        ensures own { at_log pass.new.seen pass.new.shard ≡ pass.new.log }
         ensures agreed { Agreed pass.new.known }
     {
         let TicketOf { seat } = ticket;
