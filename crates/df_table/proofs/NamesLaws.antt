@@ -164,3 +164,14 @@ module _ {V : Type 0} (seen : V → Value) where
       ∙ any_passing p q (keys_of es)
       ∙ ap (λ b. p q && b) (has_keys es q)
       ∙ sym (any_passing p q (fin.keys K)))
+
+  all_pass : {A : Type 0} (xs : List A) → filter (λ _. true) xs ≡ xs
+  all_pass [] = refl
+  all_pass (x ∷ xs) = ap (λ l. x ∷ l) (all_pass xs)
+
+  -- all keys of the entries, sorted by what they are
+  pub all_sorted : {X : Type 0} (key : X → Bytes) (es : List (Bytes × V)) (collected names : List X)
+      → map key collected ≡ keys_of es → IsDistinct same (keys_of es) → IsPermutation collected names → IsSorted (λ x y. slice_cmp nat_cmp (key x) (key y)) names
+      → map key names ≡ fin.keys (keyspace_of seen es)
+  all_sorted key es collected names is distinct moved sorted =
+      names_sorted key (λ _. true) es collected names (is ∙ sym (all_pass (keys_of es))) distinct moved sorted ∙ all_pass (fin.keys (keyspace_of seen es))

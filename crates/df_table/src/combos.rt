@@ -49,6 +49,7 @@ pub fn store_combined(
 ) -> Result<(), NoMemory>
     ensures ok { OnOk result (Gives (sets.store (combined op) destination keys.now table.old.keys) table.new.keys reply.new) }
     ensures keys { OnErr result (table.new.keys ≡ table.old.keys) }
+    ensures kept { table.new.kept ≡ table.old.kept }
 {
     let made = combined_of(alloc, table, op, keys)?;
     match made {
@@ -66,6 +67,7 @@ fn keep(
 ) -> Result<(), NoMemory>
     ensures ok { OnOk result (Gives (sets.kept destination table.old.keys (Some set.members)) table.new.keys reply.new) }
     ensures keys { OnErr result (table.new.keys ≡ table.old.keys) }
+    ensures kept { table.new.kept ≡ table.old.kept }
 {
     if set.is_empty() {
         reply.put_count(0)?;

@@ -5,6 +5,7 @@
 #![tactic(auto)]
 
 mod combos;
+mod copies;
 mod many;
 mod moves;
 mod one;

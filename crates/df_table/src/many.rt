@@ -24,6 +24,7 @@ pub fn run_many(
 ) -> Result<(), NoMemory>
     ensures ok { OnOk result (Gives (does (many op) table.old.keys) table.new.keys reply.new) }
     ensures keys { OnErr result (table.new.keys ≡ table.old.keys) }
+    ensures kept { table.new.kept ≡ table.old.kept }
 {
     match op {
         ManyOp::Del(words) => {

@@ -42,6 +42,7 @@ pub fn lmove(
 ) -> Result<(), NoMemory>
     ensures ok { OnOk result (Gives (lists.lmove source destination from to table.old.keys) table.new.keys reply.new) }
     ensures keys { OnErr result (table.new.keys ≡ table.old.keys) }
+    ensures kept { table.new.kept ≡ table.old.kept }
 {
     match look(table.get(&source)) {
         ListHere::Empty => reply.put_null(),
@@ -60,6 +61,7 @@ pub fn rpoplpush(
 ) -> Result<(), NoMemory>
     ensures ok { OnOk result (Gives (lists.rpoplpush source destination table.old.keys) table.new.keys reply.new) }
     ensures keys { OnErr result (table.new.keys ≡ table.old.keys) }
+    ensures kept { table.new.kept ≡ table.old.kept }
 {
     lmove(
         alloc,
@@ -101,6 +103,7 @@ fn move_from(
     requires { IsFilled (held table.old.keys source) }
     ensures ok { OnOk result (Gives (lists.lmove source destination from to table.old.keys) table.new.keys reply.new) }
     ensures keys { OnErr result (table.new.keys ≡ table.old.keys) }
+    ensures kept { table.new.kept ≡ table.old.kept }
 {
     if source == destination {
         return turn_at(alloc, table, source, from, to, reply);
@@ -123,6 +126,7 @@ fn turn_at(
     requires { IsFilled (held table.old.keys key) }
     ensures ok { OnOk result (Gives (lists.lmove key key from to table.old.keys) table.new.keys reply.new) }
     ensures keys { OnErr result (table.new.keys ≡ table.old.keys) }
+    ensures kept { table.new.kept ≡ table.old.kept }
 {
     table.reserve(1)?;
     let mut list = take_list(alloc, table, &key);
@@ -146,6 +150,7 @@ fn send(
     requires apart { same source destination ≡ false }
     ensures ok { OnOk result (Gives (lists.lmove source destination from to table.old.keys) table.new.keys reply.new) }
     ensures keys { OnErr result (table.new.keys ≡ table.old.keys) }
+    ensures kept { table.new.kept ≡ table.old.kept }
 {
     table.reserve(2)?;
     let there = table.has(&destination);
@@ -163,6 +168,7 @@ fn take_list(alloc: Global, table: &mut Table, key: &Bin) -> ListVal
     ensures keys { table.new.keys ≡ with_held table.old.keys key.now None }
     ensures list { lists.elements (held table.old.keys key.now) ≡ Some result.items }
     ensures spare { table.old.spare ≤ table.new.spare }
+    ensures kept { table.new.kept ≡ table.old.kept }
 {
     match table.remove(key) {
         Some(Value::List(list)) => list,
@@ -177,6 +183,7 @@ fn put_list(table: &mut Table, key: Bin, list: ListVal, keep: bool)
     requires room { 0 < table.old.spare }
     ensures keys { table.new.keys ≡ with_held table.old.keys key (put_as keep list.items) }
     ensures spare { table.old.spare ≤ table.new.spare + 1 }
+    ensures kept { table.new.kept ≡ table.old.kept }
 {
     if !keep && list.is_empty() {
         return;

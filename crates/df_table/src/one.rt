@@ -29,7 +29,7 @@ pub enum Fate {
 }
 
 impl Table {
-    /// Runs a command of one key. The key is looked for once, where it is there and stays.
+    /// Runs a command of one key. The key is looked for once; where it is put anew or removed, a second time.
     pub fn run_one(
         &mut self,
         alloc: Global,
@@ -39,6 +39,7 @@ impl Table {
     ) -> Result<(), NoMemory>
         ensures ok { OnOk result (Gives (does (on_key key.old (one op.old)) self.old.keys) self.new.keys reply.new) }
         ensures keys { OnErr result (self.new.keys ≡ self.old.keys) }
+        ensures kept { self.new.kept ≡ self.old.kept }
     {
         match self.run_on_held(alloc, key, op, reply)? {
             Fate::Stays => Ok(()),
@@ -61,6 +62,7 @@ impl Table {
         requires { held self.old.keys key.old ≡ None }
         ensures ok { OnOk result (Gives (does (on_key key.old (one op.old)) self.old.keys) self.new.keys reply.new) }
         ensures keys { OnErr result (self.new.keys ≡ self.old.keys) }
+        ensures kept { self.new.kept ≡ self.old.kept }
     {
         match prepare_on_nothing(alloc, op, reply)? {
             Change::Put(value) => {

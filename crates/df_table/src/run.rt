@@ -26,6 +26,7 @@ impl Table {
         requires { IsLinked command.old }
         ensures ok { OnOk result (Gives (meaning command.old self.old.keys) self.new.keys reply.new) }
         ensures keys { OnErr result (self.new.keys ≡ self.old.keys) }
+        ensures kept { self.new.kept ≡ self.old.kept }
     {
         match command {
             Command::Plain(op) => run_plain(op, reply),

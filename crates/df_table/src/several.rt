@@ -20,7 +20,8 @@ use df_values::{Pieces, StrVal, Value};
 
 /// DEL and UNLINK. The count takes no memory, since it is known only once the keys are gone.
 pub fn del(table: &mut Table, words: &[Bin], reply: &mut Pieces)
-    ensures { Gives (any.del words.now table.old.keys) table.new.keys reply.new }
+    ensures gives { Gives (any.del words.now table.old.keys) table.new.keys reply.new }
+    ensures kept { table.new.kept ≡ table.old.kept }
 {
     let before = table.len();
     'words: for word in words {
@@ -72,6 +73,7 @@ fn add_string(value: Option<&Value>, reply: &mut Pieces) -> Result<(), NoMemory>
 pub fn mset(table: &mut Table, pairs: Pairs, reply: &mut Pieces) -> Result<(), NoMemory>
     ensures ok { OnOk result (Gives (strings.mset pairs.items table.old.keys) table.new.keys reply.new) }
     ensures keys { OnErr result (table.new.keys ≡ table.old.keys) }
+    ensures kept { table.new.kept ≡ table.old.kept }
 {
     table.reserve(pairs.len())?;
     reply.put_ok()?;
@@ -83,6 +85,7 @@ pub fn mset(table: &mut Table, pairs: Pairs, reply: &mut Pieces) -> Result<(), N
 pub fn msetnx(table: &mut Table, pairs: Pairs, reply: &mut Pieces) -> Result<(), NoMemory>
     ensures ok { OnOk result (Gives (strings.msetnx pairs.items table.old.keys) table.new.keys reply.new) }
     ensures keys { OnErr result (table.new.keys ≡ table.old.keys) }
+    ensures kept { table.new.kept ≡ table.old.kept }
 {
     if any_present(table, pairs.as_slice()) {
         return reply.put_count(0);
@@ -107,7 +110,8 @@ fn any_present(table: &Table, pairs: &[(Bin, Bin)]) -> bool
 /// Puts the pairs in order. Takes no memory.
 fn put_strings(table: &mut Table, pairs: Pairs)
     requires { length pairs.items ≤ table.old.spare }
-    ensures { table.new.keys ≡ strings.with_strings pairs.items table.old.keys }
+    ensures keys { table.new.keys ≡ strings.with_strings pairs.items table.old.keys }
+    ensures kept { table.new.kept ≡ table.old.kept }
 {
     let pairs = pairs.into_vec();
     'pairs: for (key, value) in pairs {
@@ -124,6 +128,7 @@ pub fn rename(
 ) -> Result<(), NoMemory>
     ensures ok { OnOk result (Gives (any.rename source destination table.old.keys) table.new.keys reply.new) }
     ensures keys { OnErr result (table.new.keys ≡ table.old.keys) }
+    ensures kept { table.new.kept ≡ table.old.kept }
 {
     if !table.has(&source) {
         return reply.put_error(&ErrorText::NoSuchKey);
@@ -144,6 +149,7 @@ pub fn renamenx(
 ) -> Result<(), NoMemory>
     ensures ok { OnOk result (Gives (any.renamenx source destination table.old.keys) table.new.keys reply.new) }
     ensures keys { OnErr result (table.new.keys ≡ table.old.keys) }
+    ensures kept { table.new.kept ≡ table.old.kept }
 {
     if !table.has(&source) {
         return reply.put_error(&ErrorText::NoSuchKey);
@@ -161,7 +167,8 @@ pub fn renamenx(
 fn move_value(table: &mut Table, source: Bin, destination: Bin)
     requires there { IsTrue (is_some (held table.old.keys source)) }
     requires room { 0 < table.old.spare }
-    ensures { (reply : Reply) → table.new.keys ≡ (any.moved source destination reply (held table.old.keys source) table.old.keys).1 }
+    ensures keys { (reply : Reply) → table.new.keys ≡ (any.moved source destination reply (held table.old.keys source) table.old.keys).1 }
+    ensures kept { table.new.kept ≡ table.old.kept }
 {
     match table.remove(&source) {
         Some(value) => table.put(destination, value),

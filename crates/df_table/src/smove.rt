@@ -40,6 +40,7 @@ pub fn smove(
 ) -> Result<(), NoMemory>
     ensures ok { OnOk result (Gives (sets.smove source destination member table.old.keys) table.new.keys reply.new) }
     ensures keys { OnErr result (table.new.keys ≡ table.old.keys) }
+    ensures kept { table.new.kept ≡ table.old.kept }
 {
     match look(table.get(&source), &member) {
         SetHere::Missing => reply.put_count(0),
@@ -76,6 +77,7 @@ fn answer_without(
     requires { Has false member (held table.old.keys source) }
     ensures ok { OnOk result (Gives (sets.smove source destination member table.old.keys) table.new.keys reply.new) }
     ensures keys { OnErr result (table.new.keys ≡ table.old.keys) }
+    ensures kept { table.new.kept ≡ table.old.kept }
 {
     match look(table.get(&destination), &member) {
         SetHere::Other => reply.put_error(&ErrorText::WrongKind),
@@ -95,6 +97,7 @@ fn move_from(
     requires { Has true member (held table.old.keys source) }
     ensures ok { OnOk result (Gives (sets.smove source destination member table.old.keys) table.new.keys reply.new) }
     ensures keys { OnErr result (table.new.keys ≡ table.old.keys) }
+    ensures kept { table.new.kept ≡ table.old.kept }
 {
     if source == destination {
         return reply.put_count(1);
@@ -119,6 +122,7 @@ fn send(
     requires apart { same source destination ≡ false }
     ensures ok { OnOk result (Gives (sets.smove source destination member table.old.keys) table.new.keys reply.new) }
     ensures keys { OnErr result (table.new.keys ≡ table.old.keys) }
+    ensures kept { table.new.kept ≡ table.old.kept }
 {
     table.reserve(2)?;
     let there = table.has(&destination);
@@ -136,6 +140,7 @@ fn take_set(alloc: Global, table: &mut Table, key: &Bin) -> SetVal
     ensures keys { table.new.keys ≡ with_held table.old.keys key.now None }
     ensures set { sets.members_of (held table.old.keys key.now) ≡ Some result.members }
     ensures spare { table.old.spare ≤ table.new.spare }
+    ensures kept { table.new.kept ≡ table.old.kept }
 {
     match table.remove(key) {
         Some(Value::Set(set)) => set,
@@ -150,6 +155,7 @@ fn put_set(table: &mut Table, key: Bin, set: SetVal, keep: bool)
     requires room { 0 < table.old.spare }
     ensures keys { table.new.keys ≡ with_held table.old.keys key (put_as keep set.members) }
     ensures spare { table.old.spare ≤ table.new.spare + 1 }
+    ensures kept { table.new.kept ≡ table.old.kept }
 {
     if !keep && set.is_empty() {
         return;

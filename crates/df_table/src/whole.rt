@@ -24,6 +24,7 @@ pub fn run_whole(
     requires { IsLinked (Command.Whole op.now) }
     ensures ok { OnOk result (Gives (whole op.now table.old.keys) table.new.keys reply.new) }
     ensures keys { OnErr result (table.new.keys ≡ table.old.keys) }
+    ensures kept { table.new.kept ≡ table.old.kept }
 {
     match op {
         WholeOp::Dbsize => reply.put_count(table.len()),

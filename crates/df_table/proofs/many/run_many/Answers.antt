@@ -19,7 +19,7 @@ returns-in-Del-clause-ok c =
     let call = c.del in
     let ws = c.in-Del.words.items in
     ran_whole (Ok tt) c.args.op (Del c.in-Del.words) K call.new.table.keys call.new.reply (any.del ws K) c.in-Del.is (del_whole ws K)
-    (subst (λ l. Gives (any.del l K) call.new.table.keys call.new.reply) c.as_slice.ensures call.ensures)
+    (subst (λ l. Gives (any.del l K) call.new.table.keys call.new.reply) c.as_slice.ensures call.ensures.gives)
 
 pub returns-in-Unlink-clause-ok : goal.returns-in-Unlink-clause-ok
 returns-in-Unlink-clause-ok c =
@@ -27,7 +27,7 @@ returns-in-Unlink-clause-ok c =
     let call = c.del-in-Unlink in
     let ws = c.in-Unlink.words.items in
     ran_whole (Ok tt) c.args.op (Unlink c.in-Unlink.words) K call.new.table.keys call.new.reply (any.del ws K) c.in-Unlink.is (del_whole ws K)
-    (subst (λ l. Gives (any.del l K) call.new.table.keys call.new.reply) c.as_slice-in-Unlink.ensures call.ensures)
+    (subst (λ l. Gives (any.del l K) call.new.table.keys call.new.reply) c.as_slice-in-Unlink.ensures call.ensures.gives)
 
 pub returns-in-Exists-clause-ok : goal.returns-in-Exists-clause-ok
 returns-in-Exists-clause-ok c =

@@ -1,5 +1,5 @@
 use Rattle.df_model.specs.Meaning.{one}
-use Rattle.std.proofs.Common.{ap, ◌∙◌}
+use Rattle.std.proofs.Common.{refl, ap, ◌∙◌}
 use Rattle.df_model.specs.Keyspace.{with_held}
 use Rattle.std.specs.Prelude.{Some}
 use Rattle.df_values.specs.Seen.{seen}
@@ -16,4 +16,5 @@ pub returns : goal.returns
 returns c = record {
   ok = kept_nothing (one c.args.op.now) c.args.key.now c.args.self.now.keys c.in_ok-value.field-0 c.prepare_on_nothing.new.reply c.requires c.in_ok-value.ensures c.in_default.not-Put;
   keys = tt;
+  kept = refl;
 }

@@ -1,7 +1,7 @@
 use Rattle.std.proofs.Common.{ap, ◌∙◌}
 use Rattle.df_values.specs.Seen.{seen}
 use Rattle.df_table.proofs.TableLaws.{same_keyspace}
-use Rattle.df_table.proofs.table.Table.reserve.Goals as goal
+use Rattle.df_table.proofs.table.Table.reserve_behind.Goals as goal
 
 pub returns-clause-keys : goal.returns-clause-keys
 returns-clause-keys c =
