@@ -102,6 +102,16 @@ impl TxQueue {
         find(&self.ring, number).is_some()
     }
 
+    /// The place of the call with this number.
+    pub fn place(&self, number: u64) -> Option<Place>
+        ensures { result ≡ place_of number self.now.places }
+    {
+        match find(&self.ring, number) {
+            Some(at) => self.ring.get(at).copied(),
+            None => None,
+        }
+    }
+
     /// Gives a call its place. Takes no memory.
     pub fn insert(&mut self, place: Place)
         requires new { is_queued place.number self.old.places ≡ false }
