@@ -6,11 +6,14 @@ ghost use Rattle.df_model.specs.contracts.reply.Reply as reply;
 ghost use Rattle.df_model.specs.Values.{coded_value};
 ghost use Rattle.df_model.specs.Keyspace.{coded_keyspace};
 ghost use Rattle.df_hops.specs.Shown.{act_asked, act_shown, call_back, call_drawn, draws_needed, draws_shown, has_note, limit_said, shard_shown, told_said, told_shown};
+ghost use Rattle.df_hops.specs.Came.{IsDue, came_due, came_shown, may_want_it, outcome_said, outcome_shown};
 
 use df_book::Receipt;
 use df_caller::Slip;
 use df_model::{Bins, Reserved};
+use df_table::Table;
 use df_values::{Pieces, Value};
+use std::snapshot::Snapshot;
 
 /// What some keys hold, in the order of the keys.
 pub type Values = Reserved<Option<Value>>;
@@ -52,20 +55,22 @@ pub enum AnswerBody {
         slip: Box<Slip>,
         receipt: Receipt,
     },
-    /// Of a Quick that ran: the slip holds the reply.
+    /// Of a Quick that ran: the slip holds the reply. Its command ran on these keys.
     Ran {
         slip: Box<Slip>,
         receipt: Receipt,
+        keys: Snapshot<Table>,
     },
     /// Of a Quick that found no memory where it ran: it changed nothing.
     Wanted {
         slip: Box<Slip>,
         receipt: Receipt,
     },
-    /// Of a Hop.
+    /// Of a Hop. Its part was done on these keys.
     Did {
         outcome: Outcome,
         receipt: Receipt,
+        keys: Snapshot<Table>,
     },
     /// Of a Cancel, a Conclude, a DropCut, and of a message that doesn't fit.
     Freed,
@@ -97,4 +102,10 @@ pub struct Answer {
     // The entry of this number and hop stands in the log with this answer, and did what was due there.
     ghost told: { told_said body ≡ told_shown number hop body },
     ghost act: { act_shown number hop body ≡ act_asked shard number hop body } by { Prim.hlevel (codes, reply.the_row.coded, coded_value, coded_keyspace) },
+    // What ran was told what it gives on its keys, or found no memory where it may.
+    ghost came: { came_shown number hop body ≡ came_due number hop body } by { Prim.hlevel (codes, reply.the_row.coded, coded_value, coded_keyspace) },
+    // The entry of a Hop stands in the log, was told the outcome, and did what was due by what the caller had seen.
+    ghost outcome: { outcome_said body ≡ outcome_shown number hop body } by { Prim.hlevel (codes, reply.the_row.coded, coded_value, coded_keyspace) },
+    ghost wants: { may_want_it number hop body ≡ true },
+    ghost part: { ∥ IsDue number hop body ∥₁ },
 }

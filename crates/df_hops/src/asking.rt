@@ -5,12 +5,14 @@ ghost use Rattle.df_log.specs.Acts as acts;
 ghost use Rattle.df_footprints.specs.Footprints.{commands_of, footprint_of};
 ghost use Rattle.df_core.specs.Courses.{are_quick};
 ghost use Rattle.df_core.specs.Due.{due};
+ghost use Rattle.df_core.specs.Steps.{steps_of};
 ghost use Rattle.df_book.specs.Draws.{call_at, draws_of, last_number};
 ghost use Rattle.df_book.specs.Passes.{after_running, running_of, ticket_of};
-ghost use Rattle.df_hops.specs.Parts.{command_at, hash_for, shards_in};
+ghost use Rattle.df_end.specs.Logs.{entries_in};
+ghost use Rattle.df_hops.specs.Parts.{act_of, command_at, hash_for, shards_in};
 ghost use Rattle.df_hops.specs.declared.message.Body.TheVariants as bodies;
 
-use crate::message::{Body, Message};
+use crate::message::{Body, Message, Part};
 use df_book::{Book, CallerPass};
 use df_caller::Slip;
 use df_model::Keys;
@@ -73,6 +75,35 @@ pub fn schedule(
         number,
         body: Body::Schedule(keys),
         ticket,
+    }
+}
+
+/// Asks a shard for the next hop of a call that has its place there.
+pub fn hop(
+    book: &Book,
+    pass: &mut CallerPass,
+    shard: u32,
+    conn: u32,
+    number: u64,
+    hop: u32,
+    part: Box<Part>,
+) -> Message
+    requires book { pass.old.book ≡ book.now }
+    requires drawn { (0 < length pass.old.own) × (0 < draws_of number pass.old.own) }
+    requires last { last_number pass.old.own ≡ number }
+    requires due { Some (act_of part.value) ≡ due (shards_in book.now) (call_at pass.old.own number) (λ i. steps_of (entries_in (shards_in book.now) pass.old.seen number i)) shard hop }
+    ensures pass { pass.new ≡ after_running pass.old }
+    ensures message { (result.shard ≡ shard) × (result.conn ≡ conn) × (result.number ≡ number) }
+    ensures body { result.body ≡ bodies.Hop hop part }
+    ensures ticket { result.ticket ≡ running_of pass.old }
+{
+    let running = book.ticket(pass, true);
+    Message {
+        shard,
+        conn,
+        number,
+        body: Body::Hop(hop, part),
+        ticket: running,
     }
 }
 

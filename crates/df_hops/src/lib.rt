@@ -10,5 +10,5 @@ mod message;
 mod sizes;
 
 pub use answer::{Answer, AnswerBody, Outcome, Values, Why};
-pub use asking::{cancel, conclude, quick, schedule};
+pub use asking::{cancel, conclude, hop, quick, schedule};
 pub use message::{Body, Changes, Message, Part};
