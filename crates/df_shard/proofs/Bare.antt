@@ -1,9 +1,8 @@
 -- Small lemmas on tests, lists and draws.
-use Rattle.std.proofs.Common.{◌≡◌, ◌≢◌, ℕ, ◌<◌, Bool, true, false, ◌&&◌, eqb, List, [], ◌++◌, refl, sym, ap, ◌∙◌, arith}
+use Rattle.std.proofs.Common.{◌≡◌, ◌≢◌, ℕ, ◌<◌, Bool, true, false, ◌&&◌, eqb, List, ◌++◌, refl, sym, ap, ◌∙◌, arith, eqb-true}
 use Rattle.std.specs.Prelude.{Option, Some, None, if◌then◌else◌}
 use Rattle.std.proofs.lemmas.Bool.{false≢true}
 use Rattle.df_order.specs.Puts.{put}
-use Rattle.df_log.specs.Acts.{Changes}
 use Rattle.df_book.specs.Weights.{hit}
 use Rattle.df_book.specs.Draws.{draws_of}
 use Rattle.df_book.specs.declared.draw.Draw.{Draw}
@@ -38,13 +37,10 @@ none-some x e = absurd (false≢true (sym (ap is-none e)))
 pub known-right : (known more : List Draw) (n : ℕ) → 0 < draws_of n more → 0 < draws_of n (known ++ more)
 known-right known more n h = omega (arith, h, total-append (λ (d : Draw). hit n d.number) known more)
 
-abbrev none_staged : ℕ → Changes
-none_staged n = []
-
--- what is staged for one number stays what it was, where nothing is
-pub not-staged : (n : ℕ) → put n [] none_staged ≡ none_staged
-not-staged n = λ j m. stays (eqb m n) j
+-- what stands at a number stays so
+pub put-same : {X : Type 0} (n : ℕ) (f : ℕ → X) → put n (f n) f ≡ f
+put-same n f = λ j m. stays m (eqb m n) refl j
   where
-    stays : (b : Bool) → (if b then none_staged n else none_staged n) ≡ none_staged n
-    stays true = refl
-    stays false = refl
+    stays : (m : ℕ) (b : Bool) → eqb m n ≡ b → (if b then f n else f m) ≡ f m
+    stays m true is = ap f (sym (eqb-true m n is))
+    stays m false is = refl

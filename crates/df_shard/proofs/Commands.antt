@@ -8,12 +8,13 @@ use Rattle.df_model.specs.declared.command.Command.{Command}
 use Rattle.df_model.specs.declared.command.Command.TheVariants.{Plain, One, Many, Whole, Wrong}
 use Rattle.df_model.specs.declared.command.Call.{Call}
 use Rattle.df_log.specs.Acts.{Act, Run, Read, Stage, Apply, Unstage, Begin, Walk, Count, Clear, Passed, Pull, Saved}
-use Rattle.df_core.specs.Belongs.{MayDo, runs, reads, stages, applies, unstages, walks, counts, begins, stages_none, clears, unstages_none}
+use Rattle.df_core.specs.Belongs.{Belongs, MayDo, runs, reads, stages, applies, unstages, walks, counts, begins, stages_none, clears, unstages_none}
 use Rattle.df_core.specs.Courses.{Course, Nowhere, Alone, Spread, Names, Counts, Cuts, Clears, course_of}
 use Rattle.df_core.proofs.DueLaws.{due_belongs}
 use Rattle.df_hops.specs.Parts.{command_at}
 use Rattle.df_shard.specs.Holds.{View, call_act, call_command}
 use Rattle.df_shard.specs.Came.{Brought}
+use Rattle.df_shard.specs.Served.{IsLinkedAct}
 use Rattle.df_shard.proofs.Bare.{some-same, none-some}
 
 -- ---- no SAVE
@@ -78,6 +79,23 @@ linked shards s command act (begins e) c is = absurd (false≢true (ap is_run is
 linked shards s command act (stages_none e) c is = absurd (false≢true (ap is_run is))
 linked shards s command act (clears e) c is = absurd (false≢true (ap is_run is))
 linked shards s command act (unstages_none e) c is = absurd (false≢true (ap is_run is))
+
+-- what a call may do is none that a shard doesn't run
+pub linked-act : (shards s : ℕ) (call : Call) (act : Act) → Belongs shards s call act → IsLinkedAct act
+linked-act shards s call act b = go act b.may
+  where
+    go : (act : Act) → MayDo shards s b.command act → IsLinkedAct act
+    go act (runs e) = alone-linked shards s b.command e
+    go act (reads e) = tt
+    go act (stages K e) = tt
+    go act (applies e) = tt
+    go act (unstages e) = tt
+    go act (walks e) = tt
+    go act (counts e) = tt
+    go act (begins e) = tt
+    go act (stages_none e) = tt
+    go act (clears e) = tt
+    go act (unstages_none e) = tt
 
 pub brought-linked : (x : View) (n hop : ℕ) (call : Call) → Brought x n hop call → IsLinked (call_command call hop)
 brought-linked x n hop call b =

@@ -1,10 +1,16 @@
 pub mod Bare
+pub mod Owns
+pub mod Waitings
 pub mod Tickets
 pub mod Queues
 pub mod Waits
 pub mod Leaves
-pub mod Recorded
 pub mod Shows
+pub mod Recorded
 pub mod Commands
+pub mod Served
+pub mod RanLaws
+pub mod PartLaws
+pub mod Arms
 pub mod Turns
 pub mod Loads

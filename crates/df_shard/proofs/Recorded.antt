@@ -10,8 +10,7 @@ use Rattle.df_footprints.specs.Footprints.{footprint_of}
 use Rattle.df_order.specs.Lists.{Has}
 use Rattle.df_order.specs.Shards as order
 use Rattle.df_order.proofs.Lists.{has_last, has_only, only_has}
-use Rattle.df_order.proofs.ShardKept.{ran_most}
-use Rattle.df_log.specs.Acts.{Told, Passed, Ran, NoMemory}
+use Rattle.df_log.specs.Acts.{Act, Told, Passed, Ran, NoMemory}
 use Rattle.df_log.specs.Parts as parts
 use Rattle.df_log.specs.Parts.{IsTold, effect}
 use Rattle.df_log.specs.Entries.{is_note, acts_of}
@@ -22,35 +21,36 @@ use Rattle.df_core.specs.Due.{due}
 use Rattle.df_core.proofs.DueLaws.{due_belongs, next_named}
 use Rattle.df_book.specs.Weights.{count, Each}
 use Rattle.df_book.proofs.Sums.{hit-same}
-use Rattle.df_book.specs.Logs.{HasRoom, IsFresh}
+use Rattle.df_book.specs.Logs.{at_log, with_log, Within, HasRoom, IsFresh}
+use Rattle.df_book.proofs.Logs.{at-with, within-grown}
 use Rattle.df_book.specs.Draws.{draws_of, call_at}
 use Rattle.df_book.specs.Passes.{Shard, Receipt, receipt_of, after_entry}
 use Rattle.df_txqueue.specs.Places.{is_queued}
-use Rattle.df_end.specs.Shards.{ShardHolds, loaded}
+use Rattle.df_txqueue.specs.declared.place.Place.{Place}
+use Rattle.df_end.specs.Shards.{ShardHolds}
 use Rattle.df_end.proofs.ShardLaws.{grown-acts, hops_are_fresh, shards_run_at_once, shards_note}
 use Rattle.df_hops.specs.Parts.{shards_in}
-use Rattle.df_hops.specs.Shown.{entry_at, was_passed, bytes_of, due_in, shard_shown, draws_needed, draws_shown, limit_said, call_back, call_drawn, has_note, told_said, told_shown, act_shown, act_asked}
+use Rattle.df_hops.specs.Shown.{entry_at, was_passed, bytes_of, due_in, limit_said}
+use Rattle.df_hops.specs.Came.{given}
+use Rattle.df_shard.specs.Facts.{Facts}
 use Rattle.df_hops.specs.declared.answer.AnswerBody.{AnswerBody}
 use Rattle.df_hops.specs.declared.answer.AnswerBody.TheVariants as answers
-use Rattle.df_shard.specs.Holds.{View, Holds, Hopping, Wait, IsArmed, armed_in, holder_of, place_of, call_act, call_command, world_of}
+use Rattle.df_shard.specs.Holds.{View, Holds, Hopping, Wait, Waits, IsArmed, WasDue, armed_in, holder_of, part_in, place_of, call_act, call_command, staged_in, world_of}
 use Rattle.df_shard.specs.Bodies.{is_plain}
 use Rattle.df_shard.specs.Came.{Brought, RanTo, done, with_pass}
 use Rattle.df_shard.specs.Turns.{MayStart, IsFree}
-use Rattle.df_shard.proofs.Bare.{not-both, some-of, not-staged}
+use Rattle.df_shard.specs.Owns.{OwnPart}
+use Rattle.df_shard.proofs.Owns.{own_stays}
+use Rattle.df_shard.proofs.Bare.{not-both, put-same, some-of}
 use Rattle.df_shard.proofs.Queues.{same-free}
 use Rattle.df_shard.proofs.Shows.{found-last, passed-last}
+use Rattle.df_shard.proofs.Waits.{none-above}
 
 abbrev pub note : ℕ → Told → Entry
 note n told = record { number = n; hop = 0; act = Passed; told = told }
 
 abbrev pub entered : View → Entry → ℕ → Keyspace → View
 entered x e ran K = record x { pass = after_entry x.pass e; ran = ran; keys = K }
-
--- ---- above all that ran a number is new
-
-none-above : (x : View) (n : ℕ) → Holds x → x.ran < n → (f : Entry) → Has (acts_of x.pass.log) f → f.number ≢ n
-none-above x n h above f m =
-    λ is. absurd (omega (arith, above, is, ran_most (calls x.shards) (call_at x.pass.known) x.pass.shard (loaded x.first) (world_of x) h.holds.kept f m))
 
 -- ---- what entering asks
 
@@ -68,33 +68,57 @@ run-enters x n hop call told h b above = (
   hops_are_fresh x.pass.log (done n hop call told) refl (λ f m is. absurd (none-above x n h above f m is)),
 )
 
--- ---- what is armed stays due
+-- ---- who waits
 
-above-all : (log : List Entry) (e : Entry) (n hop : ℕ) → (not (is_note e.act) ≡ true → e.number ≢ n) →
-    ((f : Entry) → Has (acts_of log) f → f.number ≡ n → f.hop < hop) → (f : Entry) → Has (acts_of (log ++ e ∷ [])) f →
-    f.number ≡ n → f.hop < hop
-above-all log e n hop d i f h is = go (has_only (λ (y : Entry). not (is_note y.act)) (log ++ e ∷ []) f h)
+above-all : (log : List Entry) (e : Entry) (n above : ℕ) → (not (is_note e.act) ≡ true → e.number ≢ n) →
+    ((f : Entry) → Has (acts_of log) f → f.number ≡ n → f.hop < above) → (f : Entry) → Has (acts_of (log ++ e ∷ [])) f →
+    f.number ≡ n → f.hop < above
+above-all log e n above d i f h is = go (has_only (λ (y : Entry). not (is_note y.act)) (log ++ e ∷ []) f h)
   where
-    go : Has (log ++ e ∷ []) f × (not (is_note f.act) ≡ true) → f.hop < hop
+    go : Has (log ++ e ∷ []) f × (not (is_note f.act) ≡ true) → f.hop < above
     go m = elim (has_last log e f m.0) [
       | inl k ↦ i f (only_has (λ (y : Entry). not (is_note y.act)) log f k m.1) is
       | inr k ↦ absurd (d (ap (λ (y : Entry). not (is_note y.act)) k ∙ m.1) (ap (λ (y : Entry). y.number) k ∙ is))
     ]
 
-armed-stays : (x : View) (e : Entry) (ran : ℕ) (K : Keyspace) (n : ℕ) (a : Option Hopping) →
-    (not (is_note e.act) ≡ true → e.number ≢ n) → IsArmed x n a → IsArmed (entered x e ran K) n a
-armed-stays x e ran K n None d i = tt
-armed-stays x e ran K n (Some a) d i = (i.0, i.1, above-all x.pass.log e n a.hop d i.2)
-
-each-stays : (x : View) (e : Entry) (ran : ℕ) (K : Keyspace) (ws : List Wait) →
-    (not (is_note e.act) ≡ true → is_queued e.number x.places ≡ false) →
-    Each (λ (w : Wait). is_queued w.number x.places ≡ true) ws → Each (λ (w : Wait). IsArmed x w.number w.armed) ws →
-    Each (λ (w : Wait). IsArmed (entered x e ran K) w.number w.armed) ws
-each-stays x e ran K [] n q a = tt
-each-stays x e ran K (w ∷ ws) n q a = (
-  armed-stays x e ran K w.number w.armed (λ act same. not-both (ap (λ m. is_queued m x.places) same ∙ q.0) (n act)) a.0,
-  each-stays x e ran K ws n q.1 a.1,
+-- what was due stays so, whatever is entered
+pub due-grown : (shards index : ℕ) (p : Shard) (e : Entry) (n hop : ℕ) (act : Act) (o : Option Call) → at_log p.seen p.shard ≡ p.log →
+    WasDue shards index p n hop act o → WasDue shards index (after_entry p e) n hop act o
+due-grown shards index p e n hop act None own w = (
+  w.0,
+  subst (λ l. Within w.0 (with_log p.seen p.shard (l ++ e ∷ []))) own (within-grown w.0 p.seen p.shard (e ∷ []) w.1),
+  w.2,
 )
+due-grown shards index p e n hop act (Some c) own w = w
+
+armed-grown : (shards index : ℕ) (p : Shard) (e : Entry) (n above : ℕ) (a : Option Hopping) → at_log p.seen p.shard ≡ p.log →
+    IsArmed shards index p n above a → IsArmed shards index (after_entry p e) n above a
+armed-grown shards index p e n above None own i = tt
+armed-grown shards index p e n above (Some a) own i = (i.0, due-grown shards index p e n a.hop a.act a.call own i.1)
+
+-- another's entry, or a note, leaves a call that waits as it is
+pub waits-grown : (shards index : ℕ) (places : List Place) (p : Shard) (e : Entry) (v : Wait) → at_log p.seen p.shard ≡ p.log →
+    (not (is_note e.act) ≡ true → e.number ≢ v.number) → Waits shards index places p v → Waits shards index places (after_entry p e) v
+waits-grown shards index places p e v own other h = record {
+  queued = h.queued;
+  known = h.known;
+  below = above-all p.log e v.number v.above other h.below;
+  armed = armed-grown shards index p e v.number v.above v.armed own h.armed;
+  bare = h.bare;
+}
+
+each-grown : (x : View) (e : Entry) → at_log x.pass.seen x.pass.shard ≡ x.pass.log →
+    (not (is_note e.act) ≡ true → is_queued e.number x.places ≡ false) → (ws : List Wait) →
+    Each (Waits x.shards x.index x.places x.pass) ws → Each (Waits x.shards x.index x.places (after_entry x.pass e)) ws
+each-grown x e own new [] h = tt
+each-grown x e own new (w ∷ ws) h = (
+  waits-grown x.shards x.index x.places x.pass e w own (λ act same. not-both (ap (λ m. is_queued m x.places) same ∙ h.0.queued) (new act)) h.0,
+  each-grown x e own new ws h.1,
+)
+
+-- its own log is known whole
+pub own-grown : (p : Shard) (e : Entry) → at_log (after_entry p e).seen p.shard ≡ (after_entry p e).log
+own-grown p e = at-with p.seen p.shard (p.log ++ e ∷ [])
 
 -- ---- what the shard keeps
 
@@ -109,7 +133,7 @@ hop-holds x n hop call h b =
 
 world-noted : (x : View) (e : Entry) → is_note e.act ≡ true → world_of x ≡ world_of (entered x e x.ran x.keys)
 world-noted x e note = λ j. record {
-  state = loaded x.keys;
+  state = part_in x;
   holders = map (holder_of x.shards) x.holders;
   queue = map place_of x.places;
   ran = x.ran;
@@ -122,18 +146,20 @@ note-holds x n hop call told p h b grown = subst (λ (q : Shard). Holds (with_pa
   some = h.some;
   index = h.index;
   book = h.book;
+  own = own-grown x.pass e;
   holds = subst (ShardHolds x.shards x.first (armed_in x.waiting) (after_entry x.pass e)) (world-noted x e refl)
       (shards_note x.shards x.first (with_hop x n) (armed_in x.waiting) x.pass (world_of x) e (hop-holds x n hop call h b) refl b.drawn (λ m. omega arith));
-  queued = h.queued;
-  known = h.known;
-  armed = each-stays x e x.ran x.keys x.waiting (λ act. absurd (not-both act refl)) h.queued h.armed;
+  once = h.once;
+  waits = each-grown x e h.own (λ act. absurd (not-both act refl)) x.waiting h.waits;
+  room = h.room;
+  mine = h.mine;
 }
   where
     e : Entry
     e = note n told
 
 world-run : (x : View) (n hop : ℕ) (call : Call) (told : Told) (K : Keyspace) → x.ran < n →
-    effect (done n hop call told) (loaded x.keys) ≡ loaded K →
+    effect (done n hop call told) (part_in x) ≡ record { visible = K; staged = staged_in x.waiting } →
     order.enter (calls x.shards) (done n hop call told) (world_of x) ≡ world_of (entered x (done n hop call told) n K)
 world-run x n hop call told K above state = λ j. record {
   state = state j;
@@ -149,7 +175,7 @@ world-run x n hop call told K above state = λ j. record {
 -- it was told what it gives, and these keys are left
 pub record Gave (x : View) (n hop : ℕ) (call : Call) (K : Keyspace) (told : Told) : Type 0 where
   pub is_told : IsTold x.shards x.pass.shard x.keys (call_act call hop) told
-  pub state : effect (done n hop call told) (loaded x.keys) ≡ loaded K
+  pub state : effect (done n hop call told) (part_in x) ≡ record { visible = K; staged = staged_in x.waiting }
 
 run-holds-at : (x : View) (n hop : ℕ) (call : Call) (K : Keyspace) (told : Told) → Holds x → Brought x n hop call →
     MayStart x n → IsFree x call → Gave x n hop call K told → Holds (entered x (done n hop call told) n K)
@@ -157,13 +183,16 @@ run-holds-at x n hop call K told h b start free g = record {
   some = h.some;
   index = h.index;
   book = h.book;
+  own = own-grown x.pass e;
   holds = subst (ShardHolds x.shards x.first (armed_in x.waiting) (after_entry x.pass e)) (world-run x n hop call told K start.0 g.state)
       (shards_run_at_once x.shards x.first (with_hop x n) (armed_in x.waiting) x.pass (world_of x) e keys.0 (omega (arith, h.some))
       (hop-holds x n hop call h b) refl b.drawn (ap (λ c. footprint_of x.shards c x.pass.shard) b.is_call ∙ here)
       (same-free x.shards keys.0 x.holders ∙ free keys.0 keys.1) start.0 tells (λ m. omega arith));
-  queued = h.queued;
-  known = h.known;
-  armed = each-stays x e n K x.waiting (λ act. start.1) h.queued h.armed;
+  once = h.once;
+  waits = each-grown x e h.own (λ act. start.1) x.waiting h.waits;
+  room = h.room;
+  mine = subst (OwnPart x.shards x.index) g.state
+      (own_stays x.shards x.index (call_at x.pass.known n) e (part_in x) (omega (arith, h.some)) (subst (λ s. Tells x.shards s (call_at x.pass.known n) e (part_in x)) h.index tells) h.mine);
 }
   where
     e : Entry
@@ -175,8 +204,8 @@ run-holds-at x n hop call K told h b start free g = record {
     here : footprint_of x.shards call x.pass.shard ≡ Some keys.0
     here = ap (footprint_of x.shards call) h.index ∙ keys.1
 
-    tells : Tells x.shards x.pass.shard (call_at x.pass.known n) e (loaded x.keys)
-    tells = subst (λ c. Tells x.shards x.pass.shard c e (loaded x.keys)) (sym b.is_call) (
+    tells : Tells x.shards x.pass.shard (call_at x.pass.known n) e (part_in x)
+    tells = subst (λ c. Tells x.shards x.pass.shard c e (part_in x)) (sym b.is_call) (
       due_belongs x.shards call (λ i. []) x.pass.shard hop (call_act call hop)
           (subst (λ s. due x.shards call (λ i. []) s hop ≡ Some (call_act call hop)) (sym h.index) b.is_due),
       g.is_told,
@@ -187,11 +216,11 @@ run-holds-at x n hop call K told h b start free g = record {
 gave-ran : (x : View) (n hop : ℕ) (call : Call) (K : Keyspace) → K ≡ (meaning (call_command call hop) x.keys).1 →
     Gave x n hop call K (Ran (meaning (call_command call hop) x.keys).0)
 gave-ran x n hop call K is =
-    record { is_told = parts.ran (call_command call hop); state = λ j. record { visible = sym is j; staged = not-staged n j } }
+    record { is_told = parts.ran (call_command call hop); state = λ j. record { visible = sym is j; staged = put-same n (staged_in x.waiting) j } }
 
 gave-wanted : (x : View) (n hop : ℕ) (call : Call) (K : Keyspace) → K ≡ x.keys → Gave x n hop call K NoMemory
 gave-wanted x n hop call K is =
-    record { is_told = parts.wanted (call_act call hop) refl; state = λ j. record { visible = sym is j; staged = not-staged n j } }
+    record { is_told = parts.wanted (call_act call hop) refl; state = λ j. record { visible = sym is j; staged = put-same n (staged_in x.waiting) j } }
 
 -- what it was told, and the bytes of it
 pub record CameTo (x : View) (n hop : ℕ) (call : Call) (K : Keyspace) (bytes : Bytes) (e : Entry) (is_said : Bool) : Type 0 where
@@ -199,6 +228,7 @@ pub record CameTo (x : View) (n hop : ℕ) (call : Call) (K : Keyspace) (bytes :
   pub entry : e ≡ done n hop call told
   pub gave : Gave x n hop call K told
   pub said : (if is_said then Some (Some bytes) else Some None) ≡ bytes_of told
+  pub given : is_said ≡ true → told ≡ given x.shards x.index x.keys (call_act call hop)
 
 pub came_to : (x : View) (n hop : ℕ) (call : Call) (K : Keyspace) (bytes : Bytes) (e : Entry) (is_said : Bool) →
     RanTo n hop call x.keys K bytes e is_said → CameTo x n hop call K bytes e is_said
@@ -207,9 +237,10 @@ came_to x n hop call K bytes e true r = record {
   entry = r.0;
   gave = gave-ran x n hop call K r.1;
   said = ap (λ b. Some (Some b)) r.2;
+  given = λ e. refl;
 }
 came_to x n hop call K bytes e false r =
-    record { told = NoMemory; entry = r.0; gave = gave-wanted x n hop call K r.1; said = refl }
+    record { told = NoMemory; entry = r.0; gave = gave-wanted x n hop call K r.1; said = refl; given = λ e. absurd (not-both e refl) }
 
 pub ran-enters : (x : View) (n hop : ℕ) (call : Call) (K : Keyspace) (bytes : Bytes) (e : Entry) (is_said : Bool) → Holds x →
     Brought x n hop call → x.ran < n → RanTo n hop call x.keys K bytes e is_said → Enters e x.pass
@@ -225,27 +256,16 @@ ran-holds x n hop call K bytes e is_said p h b start free r grown =
     subst (λ (q : Shard). Holds (record x { pass = q; ran = n; keys = K })) (sym (grown ∙ ap (after_entry x.pass) t.entry))
     (run-holds-at x n hop call K t.told h b start free t.gave)
 
--- ---- the facts of an answer
-
-pub record Facts (s n hop : ℕ) (body : AnswerBody) : Type 0 where
-  pub shown : shard_shown s body ≡ s
-  pub drawn : draws_needed body ≤ draws_shown n body
-  pub limit : n ≤ limit_said n body
-  pub call : call_back body ≡ call_drawn n body
-  pub note : has_note n body ≡ true
-  pub told : told_said body ≡ told_shown n hop body
-  pub act : act_shown n hop body ≡ act_asked s n hop body
-
 -- an answer with neither slip nor receipt
 pub plain-facts : (s n : ℕ) (body : AnswerBody) → is_plain body ≡ true → n ≤ limit_said n body → Facts s n 0 body
-plain-facts s n answers.Taken p l = record { shown = refl; drawn = omega arith; limit = l; call = refl; note = refl; told = refl; act = refl }
-plain-facts s n (answers.Refused limit) p l = record { shown = refl; drawn = omega arith; limit = l; call = refl; note = refl; told = refl; act = refl }
-plain-facts s n answers.NoMemory p l = record { shown = refl; drawn = omega arith; limit = l; call = refl; note = refl; told = refl; act = refl }
+plain-facts s n answers.Taken p l = record { shown = refl; drawn = omega arith; limit = l; call = refl; note = refl; told = refl; act = refl; came = refl; outcome = refl; wants = refl; part = tt }
+plain-facts s n (answers.Refused limit) p l = record { shown = refl; drawn = omega arith; limit = l; call = refl; note = refl; told = refl; act = refl; came = refl; outcome = refl; wants = refl; part = tt }
+plain-facts s n answers.NoMemory p l = record { shown = refl; drawn = omega arith; limit = l; call = refl; note = refl; told = refl; act = refl; came = refl; outcome = refl; wants = refl; part = tt }
 plain-facts s n (answers.Passed why slip receipt) p l = absurd (not-both p refl)
-plain-facts s n (answers.Ran slip receipt) p l = absurd (not-both p refl)
+plain-facts s n (answers.Ran slip receipt keys) p l = absurd (not-both p refl)
 plain-facts s n (answers.Wanted slip receipt) p l = absurd (not-both p refl)
-plain-facts s n (answers.Did outcome receipt) p l = absurd (not-both p refl)
-plain-facts s n answers.Freed p l = record { shown = refl; drawn = omega arith; limit = l; call = refl; note = refl; told = refl; act = refl }
+plain-facts s n (answers.Did outcome receipt keys) p l = absurd (not-both p refl)
+plain-facts s n answers.Freed p l = record { shown = refl; drawn = omega arith; limit = l; call = refl; note = refl; told = refl; act = refl; came = refl; outcome = refl; wants = refl; part = tt }
 plain-facts s n (answers.Pulled out done receipt) p l = absurd (not-both p refl)
 
 -- ---- the receipt
@@ -281,7 +301,7 @@ ran-shown x n hop call told e p r h b above is grown r_is =
     subst (RanShown x.index n hop call told) (sym (shows x p e (done n hop call told) r is grown r_is)) record {
       shard = h.index;
       drawn = b.drawn;
-      found = found-last x.pass.log (done n hop call told) refl (none-above x n h above);
+      found = found-last x.pass.log (done n hop call told) refl (λ f m is. absurd (none-above x n h above f m is));
       due = (λ j. due (words j) (b.is_call j) (λ i. []) x.index hop) ∙ b.is_due;
     }
   where

@@ -30,6 +30,25 @@ is_schedule Conclude = false
 is_schedule (Pull hop) = false
 is_schedule DropCut = false
 
+abbrev pub is_hop : Body → Bool
+is_hop (Schedule keys) = false
+is_hop (Quick hop hash slip) = false
+is_hop (Hop hop part) = true
+is_hop Cancel = false
+is_hop Conclude = false
+is_hop (Pull hop) = false
+is_hop DropCut = false
+
+-- nobody answers it at once
+abbrev pub is_silent : Body → Bool
+is_silent (Schedule keys) = false
+is_silent (Quick hop hash slip) = false
+is_silent (Hop hop part) = true
+is_silent Cancel = false
+is_silent Conclude = false
+is_silent (Pull hop) = true
+is_silent DropCut = false
+
 -- ---- answers
 
 -- what the note of a Quick that was passed was told
@@ -43,9 +62,9 @@ why_in answers.Taken = None
 why_in (answers.Refused limit) = None
 why_in answers.NoMemory = None
 why_in (answers.Passed why slip receipt) = Some why
-why_in (answers.Ran slip receipt) = None
+why_in (answers.Ran slip receipt keys) = None
 why_in (answers.Wanted slip receipt) = None
-why_in (answers.Did outcome receipt) = None
+why_in (answers.Did outcome receipt keys) = None
 why_in answers.Freed = None
 why_in (answers.Pulled out done receipt) = None
 
@@ -60,20 +79,24 @@ limit_in answers.Taken = None
 limit_in (answers.Refused limit) = Some limit
 limit_in answers.NoMemory = None
 limit_in (answers.Passed why slip receipt) = None
-limit_in (answers.Ran slip receipt) = None
+limit_in (answers.Ran slip receipt keys) = None
 limit_in (answers.Wanted slip receipt) = None
-limit_in (answers.Did outcome receipt) = None
+limit_in (answers.Did outcome receipt keys) = None
 limit_in answers.Freed = None
 limit_in (answers.Pulled out done receipt) = None
+
+abbrev pub limit_scheduled : Option Answer → Option ℕ
+limit_scheduled None = None
+limit_scheduled (Some answer) = limit_in answer.body
 
 abbrev pub is_taken : AnswerBody → Bool
 is_taken answers.Taken = true
 is_taken (answers.Refused limit) = false
 is_taken answers.NoMemory = false
 is_taken (answers.Passed why slip receipt) = false
-is_taken (answers.Ran slip receipt) = false
+is_taken (answers.Ran slip receipt keys) = false
 is_taken (answers.Wanted slip receipt) = false
-is_taken (answers.Did outcome receipt) = false
+is_taken (answers.Did outcome receipt keys) = false
 is_taken answers.Freed = false
 is_taken (answers.Pulled out done receipt) = false
 
@@ -83,9 +106,9 @@ is_plain answers.Taken = true
 is_plain (answers.Refused limit) = true
 is_plain answers.NoMemory = true
 is_plain (answers.Passed why slip receipt) = false
-is_plain (answers.Ran slip receipt) = false
+is_plain (answers.Ran slip receipt keys) = false
 is_plain (answers.Wanted slip receipt) = false
-is_plain (answers.Did outcome receipt) = false
+is_plain (answers.Did outcome receipt keys) = false
 is_plain answers.Freed = true
 is_plain (answers.Pulled out done receipt) = false
 

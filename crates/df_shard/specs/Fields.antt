@@ -12,6 +12,7 @@ view_of x = record {
   places = x.queue.places;
   waiting = map wait_of x.waiting.items;
   keys = x.table.keys;
+  kept = x.table.kept;
   first = x.first.value.keys;
   pass = x.pass;
 }

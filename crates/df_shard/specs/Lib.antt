@@ -1,6 +1,13 @@
+pub mod Owns
 pub mod Holds
 pub mod Changes
 pub mod Bodies
 pub mod Came
 pub mod Turns
 pub mod Fields
+pub mod Did
+pub mod MayRun
+pub mod Served
+pub mod Arming
+pub mod Leaving
+pub mod Facts

@@ -5,10 +5,12 @@ ghost use Rattle.std.specs.Prelude.{◌≡◌, ◌/◌};
 ghost use Rattle.df_model.specs.Meaning.{meaning};
 ghost use Rattle.df_log.specs.Acts as acts;
 ghost use Rattle.df_log.specs.Acts.{Act, Told};
+ghost use Rattle.df_hops.specs.Parts.{act_of};
+ghost use Rattle.df_hops.specs.Came.{given_as};
 ghost use Rattle.df_shard.specs.Holds.{call_act, call_command};
 ghost use Rattle.df_shard.specs.Bodies.{why_told};
 
-use df_hops::Why;
+use df_hops::{Outcome, Part, Why};
 use df_log::Entry;
 use df_model::Call;
 use df_table::Table;
@@ -43,6 +45,41 @@ pub(crate) fn wanted(number: u64, hop: u64, call: &Snapshot<Call>, keys: &Snapsh
     ensures { result ≡ record { number = number; hop = hop; act = call_act call.now.value hop; told = acts.NoMemory } }
 {
     entry_for(number, hop, call, keys)
+}
+
+fn part_entry(
+    number: u64,
+    hop: u64,
+    part: &Snapshot<Part>,
+    keys: &Snapshot<Table>,
+    outcome: &Outcome,
+    shards: u32,
+    index: u32,
+) -> Entry
+    ghost did: { Act × Told }
+    ensures { result ≡ record { number = number; hop = hop; act = did.0; told = did.1 } }
+{
+    let _part = part;
+    let _keys = keys;
+    let _outcome = outcome;
+    let _shards = shards;
+    let _index = index;
+    Entry::new(number, hop)
+}
+
+/// A part was done on these keys of shard `index`, with this outcome.
+pub(crate) fn did(
+    number: u64,
+    hop: u64,
+    part: &Snapshot<Part>,
+    keys: &Snapshot<Table>,
+    outcome: &Outcome,
+    shards: u32,
+    index: u32,
+) -> Entry
+    ensures { result ≡ record { number = number; hop = hop; act = act_of part.now.value; told = given_as outcome.now shards index keys.now.value.keys (act_of part.now.value) } }
+{
+    part_entry(number, hop, part, keys, outcome, shards, index)
 }
 
 /// A Quick was passed.

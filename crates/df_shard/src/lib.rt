@@ -4,13 +4,17 @@
 //! refused and draws again. What if memory runs out? Each step takes all its memory before its first change.
 #![tactic(auto)]
 
+mod arming;
 mod asked;
 mod entries;
+mod handling;
 mod leaving;
+mod parts;
 mod queueing;
 mod quick;
 mod running;
 mod schedule;
+mod serving;
 mod shard;
 mod waiting;
 

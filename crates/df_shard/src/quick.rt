@@ -21,7 +21,8 @@ use crate::waiting::{Armed, Waiting};
 use df_book::Book;
 use df_caller::Slip;
 use df_hops::{Answer, AnswerBody, Message, Why};
-use df_model::Keys;
+use df_model::{Keys, Reserved};
+use std::snapshot::Snapshot;
 
 impl Shard {
     /// A Quick: it runs at once, is passed, or waits and is answered later.
@@ -66,6 +67,7 @@ impl Shard {
             slip,
         } = asked;
         let mut slip = slip;
+        let keys = Snapshot::of(&self.table);
         let (entry, is_said) = run_call(self.alloc, &mut self.table, number, hop, &mut slip);
         self.ran = number;
         let receipt = book.enter(&mut self.pass, entry);
@@ -74,7 +76,7 @@ impl Shard {
             shard: self.index,
             number,
             hop: hop as u64,
-            body: ran_body(is_said, slip, receipt),
+            body: ran_body(is_said, slip, receipt, keys),
         }
     }
 
@@ -153,8 +155,9 @@ impl Shard {
         let call = Waiting {
             number,
             conn,
-            above: hop,
+            above: 0,
             armed: Armed::Quick(hop, slip),
+            staged: Reserved::new(self.alloc),
         };
         let queued = queue_up(
             &mut self.intents,
@@ -165,10 +168,13 @@ impl Shard {
         );
         match queued {
             Ok(()) => Ok(()),
-            Err(call) => match call.armed {
-                Armed::Quick(_, slip) => Err(slip),
-                Armed::Nothing | Armed::Hop(_, _) => unreachable!(),
-            },
+            Err(call) => {
+                let Waiting { armed, .. } = call;
+                match armed {
+                    Armed::Quick(_, slip) => Err(slip),
+                    Armed::Nothing | Armed::Hop(_, _) => unreachable!(),
+                }
+            }
         }
     }
 }

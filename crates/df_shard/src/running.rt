@@ -30,7 +30,8 @@ pub(crate) fn run_call(
     slip: &mut Slip,
 ) -> (Entry, bool)
     requires { IsLinked (call_command slip.old.call hop) }
-    ensures { RanTo number hop slip.old.call table.old.keys table.new.keys slip.new.reply result.0 result.1 }
+    ensures ran { RanTo number hop slip.old.call table.old.keys table.new.keys slip.new.reply result.0 result.1 }
+    ensures kept { table.new.kept ≡ table.old.kept }
 {
     let call = Snapshot::of(&slip.call);
     let keys = Snapshot::of(table);
@@ -45,6 +46,7 @@ fn run_slip(alloc: Global, table: &mut Table, slip: &mut Slip, at: u32) -> Resul
     requires { IsLinked (command_at (commands_of slip.old.call) at) }
     ensures ok { OnOk result (Gives (meaning (command_at (commands_of slip.old.call) at) table.old.keys) table.new.keys slip.new.reply) }
     ensures keys { OnErr result (table.new.keys ≡ table.old.keys) }
+    ensures kept { table.new.kept ≡ table.old.kept }
 {
     match &mut slip.call {
         Call::Single(command) => table.run_command(alloc, command, &mut slip.reply),
@@ -56,12 +58,21 @@ fn run_slip(alloc: Global, table: &mut Table, slip: &mut Slip, at: u32) -> Resul
     }
 }
 
-/// What a Quick that ran is answered.
-pub(crate) fn ran_body(is_said: bool, slip: Box<Slip>, receipt: Receipt) -> AnswerBody
-    ensures { result ≡ (if is_said then answers.Ran slip receipt else answers.Wanted slip receipt) }
+/// What a Quick that ran on these keys is answered.
+pub(crate) fn ran_body(
+    is_said: bool,
+    slip: Box<Slip>,
+    receipt: Receipt,
+    keys: Snapshot<Table>,
+) -> AnswerBody
+    ensures { result ≡ (if is_said then answers.Ran slip receipt keys else answers.Wanted slip receipt) }
 {
     if is_said {
-        AnswerBody::Ran { slip, receipt }
+        AnswerBody::Ran {
+            slip,
+            receipt,
+            keys,
+        }
     } else {
         AnswerBody::Wanted { slip, receipt }
     }

@@ -17,7 +17,7 @@ use crate::shard::Shard;
 use crate::waiting::{Armed, Waiting};
 use df_book::Book;
 use df_hops::{Answer, AnswerBody, Body, Message};
-use df_model::Keys;
+use df_model::{Keys, Reserved};
 use df_txqueue::TxQueue;
 
 /// An answer without a receipt.
@@ -107,6 +107,7 @@ impl Shard {
             conn,
             above: 0,
             armed: Armed::Nothing,
+            staged: Reserved::new(self.alloc),
         };
         let queued = queue_up(
             &mut self.intents,

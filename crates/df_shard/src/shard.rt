@@ -2,6 +2,7 @@
 //! and who waits has its place, its intents and, where a hop of it is armed, the right to enter it.
 
 ghost use Rattle.std.specs.Prelude.{◌≡◌, ◌+◌, ◌<◌, [], IsTrue, ◌↔◌, Some, OnOk, OnErr, IfErr};
+ghost use Rattle.df_model.specs.Hash.{shard_of};
 ghost use Rattle.df_model.specs.Keyspace.{Keyspace, no_keys, with_held};
 ghost use Rattle.df_values.specs.Seen.{seen};
 ghost use Rattle.df_log.specs.Parts.{own_keys};
@@ -81,6 +82,7 @@ impl Shard {
     /// Lets the key hold the value before anything ran. Where there is no memory both come back.
     pub fn load(&mut self, key: Bin, value: Value) -> Result<(), (Bin, Value)>
         requires fresh { (self.old.pass.log ≡ []) × (self.old.places ≡ []) }
+        requires own { shard_of key self.old.shards ≡ self.old.index }
         ensures first { OnOk result (self.new.first ≡ with_held self.old.first key (Some (seen value))) }
         ensures rest { self.new ≡ record self.old { first = self.new.first; keys = self.new.keys } }
         ensures same { OnErr result (self.new ≡ self.old) }

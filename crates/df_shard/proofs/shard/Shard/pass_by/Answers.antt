@@ -38,4 +38,4 @@ invariant_of-result c =
     let x : View = view_of c.self.inside in let a = c.args.asked in
     let b : Brought x a.number a.hop a.slip.value.call = subst (λ (v : View). Brought v a.number a.hop a.slip.value.call) (sym c.self.view_is) c.requires.brought in
     let s = note-shown x a.number a.hop a.slip.value.call (why_told c.args.why) c.passed.result c.enter-receipt.new.pass c.enter-receipt.result c.self.invariant b c.passed.ensures c.enter-receipt.ensures.grown c.enter-receipt.ensures.receipt in
-    record { shown = s.shard; drawn = s.drawn; limit = c.requires.limit; call = ap Some (sym s.of_call); note = s.note; told = refl; act = refl }
+    record { shown = s.shard; drawn = s.drawn; limit = c.requires.limit; call = ap Some (sym s.of_call); note = s.note; told = refl; act = refl; came = refl; outcome = refl; wants = refl; part = ∣ tt ∣₁ }

@@ -1,5 +1,7 @@
 use Rattle.std.proofs.Common.{◌≡◌, ◌∙◌, ap, sym, subst, ℕ, List, true, inl, inr, ◌⊎◌, ◌≤◌, ◌<◌, arith}
-use Rattle.std.specs.Prelude.{map, Some}
+use Rattle.std.specs.Prelude.{map, Option, Some, []}
+use Rattle.df_model.specs.Spared.{Spared}
+use Rattle.df_values.specs.declared.value.Value.{Value}
 use Rattle.df_model.specs.declared.keys.Keys.{Keys}
 use Rattle.df_footprints.specs.Footprints.{footprint_of}
 use Rattle.df_book.specs.Draws.{call_at, draws_of}
@@ -7,12 +9,14 @@ use Rattle.df_intents.specs.Holders as intents
 use Rattle.df_txqueue.specs.Places.{is_queued}
 use Rattle.df_txqueue.specs.declared.place.Place as at
 use Rattle.df_shard.specs.Fields.{view_of}
-use Rattle.df_shard.specs.Holds.{View, Holds, Wait, wait_of, tail_of, place_for}
+use Rattle.df_shard.specs.Holds.{View, Holds, Wait, changes_seen, wait_of, tail_of, place_for}
 use Rattle.df_shard.specs.Bodies.{is_taken}
 use Rattle.df_shard.proofs.Bare.{not-both}
 use Rattle.df_shard.proofs.Queues.{holds-none, queued-new}
-use Rattle.df_shard.proofs.Waits.{call-waits, wait-append}
-use Rattle.df_shard.proofs.shard.Shard.take_in.Goals.{in-Ok, in-Err+in-Quick-1, in-Err+in-Hop-1, in-Err+in-Nothing-1}
+use Rattle.df_shard.specs.Changes.{plain_wait}
+use Rattle.df_shard.proofs.Waitings.{fresh-wait, wait-append}
+use Rattle.df_shard.proofs.Waits.{call-waits}
+use Rattle.df_shard.proofs.shard.Shard.take_in.Goals.{in-Ok, in-Err}
 use Rattle.df_shard.proofs.shard.Shard.take_in.Goals as goal
 
 pub queue_up-queued-requires-clause-none : goal.queue_up-queued-requires-clause-none
@@ -33,14 +37,13 @@ invariant_of-self c =
     Holds (record x { holders = new.intents.holders; places = new.queue.places; waiting = map wait_of new.waiting.items }) =
     λ q. subst (λ (v : List intents.Holder × List at.Place × List Wait). Holds (record x { holders = v.0; places = v.1; waiting = v.2 }))
     (λ j. (sym q.0 j, sym q.1 j, sym (ap (map wait_of) q.2) j)) c.self.invariant in
+    let fresh : changes_seen c.new.result.items ≡ [] = ap (λ (r : Spared (List ℕ × Option Value)). changes_seen r.items) c.new.ensures in
     elim c.match-queued.branch [
       | in-Ok w ↦ let q = w.in-Ok.ensures in
           subst (λ (v : List intents.Holder × List at.Place × List Wait). Holds (record x { holders = v.0; places = v.1; waiting = v.2 }))
-          (λ j. (sym q.holders j, sym q.places j, sym (ap (map wait_of) q.waiting ∙ wait-append i.waiting.items _) j))
-          (call-waits x n k c.self.invariant drawn asks (omega (arith, c.if-number-self.false)) (sym c.if-is_queued.ensures) turn)
-      | in-Err+in-Quick-1 w ↦ kept w.in-Err.ensures.same
-      | in-Err+in-Hop-1 w ↦ kept w.in-Err.ensures.same
-      | in-Err+in-Nothing-1 w ↦ kept w.in-Err.ensures.same
+          (λ j. (sym q.holders j, sym q.places j, (fresh-wait x.waiting (plain_wait n c.args.conn) _ (sym fresh) ∙ sym (ap (map wait_of) q.waiting ∙ wait-append i.waiting.items _)) j))
+          (call-waits x n c.args.conn k c.self.invariant drawn asks (omega (arith, c.if-number-self.false)) (sym c.if-is_queued.ensures) turn)
+      | in-Err w ↦ kept w.in-Err.ensures.same
     ]
 
 pub returns-clause-taken : goal.returns-clause-taken
@@ -48,7 +51,5 @@ returns-clause-taken c =
     let x : View = view_of c.self.inside in let n : ℕ = c.args.number in
     elim c.match-queued.branch [
       | in-Ok w ↦ λ t. subst (λ (ps : List at.Place). is_queued n ps ≡ true) (sym w.in-Ok.ensures.places) (queued-new (place_for n (intents.is_free c.args.keys x.holders)) x.places)
-      | in-Err+in-Quick-1 w ↦ λ t. absurd (not-both t (ap is_taken w.result-is))
-      | in-Err+in-Hop-1 w ↦ λ t. absurd (not-both t (ap is_taken w.result-is))
-      | in-Err+in-Nothing-1 w ↦ λ t. absurd (not-both t (ap is_taken w.result-is))
+      | in-Err w ↦ λ t. absurd (not-both t (ap is_taken w.result-is))
     ]
