@@ -1,21 +1,18 @@
--- A byte is one step by the table: the remainder of the lowest eight bits, beside the others moved down.
-use Rattle.std.proofs.Common.{◌≡◌, ℕ, zero, suc, ◌+◌, ◌*◌, ◌/◌, ◌%◌, ◌^◌, ◌<◌, Bool, true, false, cond, [], ◌∷◌, ◌++◌, map, get_or, refl, sym, ap, ◌∙◌, arith}
+-- A byte is one step by the tables: the remainder of the lowest eight bits, beside the others moved down.
+use Rattle.std.proofs.Common.{◌≡◌, ℕ, zero, suc, ◌+◌, ◌*◌, ◌/◌, ◌%◌, ◌^◌, ◌<◌, Bool, true, false, cond, [], ◌∷◌, ◌++◌, refl, sym, ap, ◌∙◌, arith}
 use Rattle.std.specs.Prelude.{bit_xor, ◌==◌, codes}
-use Rattle.std.specs.List.{range_with_len}
 use Rattle.std.specs.Int.Bits.{xor_assoc}
 use Rattle.std.proofs.Math.Nat.{pow-suc, mul_assoc}
-use Rattle.std.proofs.lemmas.Nat.{xor_comm, xor_shr, xor_mod, xor_block, xor_lt, shr_split}
-use Rattle.std.proofs.lemmas.List.FromFn.{get_or-map-range_with_len}
+use Rattle.std.proofs.lemmas.Nat.{xor_comm, xor_shr, xor_mod, xor_block, shr_split}
 use Rattle.df_model.specs.Values.{Bytes}
 use Rattle.df_rdbcore.specs.Crc.{POLYNOMIAL, shifted, shifts, with_byte, crc_from, crc}
-use Rattle.df_rdbcore.specs.declared.crc_table.TheConstants.{TABLE}
 
 -- the check value of the catalogues of sums
 known_sum : crc (codes "123456789") ≡ 0xe9c6_d914_c4b8_d9ca
 unfolding shifts with_byte
 known_sum = refl
 
-xor_none : (a : ℕ) → bit_xor a 0 ≡ a
+pub xor_none : (a : ℕ) → bit_xor a 0 ≡ a
 xor_none a = xor_comm a 0
 
 by_test : (t : Bool) (h a p : ℕ) → cond t (bit_xor h a) (bit_xor (bit_xor h a) p) ≡ bit_xor h (cond t a (bit_xor a p))
@@ -31,21 +28,14 @@ high_shifted h y =
     ∙ ap (λ q. cond (y % 2 == 0) q (bit_xor q POLYNOMIAL)) half
     ∙ by_test (y % 2 == 0) h (y / 2) POLYNOMIAL
 
-high_shifts : (k h y : ℕ) → shifts k (bit_xor (h * 2 ^ k) y) ≡ bit_xor h (shifts k y)
+pub high_shifts : (k h y : ℕ) → shifts k (bit_xor (h * 2 ^ k) y) ≡ bit_xor h (shifts k y)
 unfolding shifts
 high_shifts zero h y = let e : h * 2 ^ 0 ≡ h = omega arith in ap (λ x. bit_xor x y) e
 high_shifts (suc k) h y =
     let twice : h * 2 ^ suc k ≡ h * 2 ^ k * 2 = ap (λ x. h * x) (pow-suc 2 k) ∙ sym (mul_assoc h (2 ^ k) 2) in
     ap (λ x. shifts k (shifted (bit_xor x y))) twice ∙ ap (shifts k) (high_shifted (h * 2 ^ k) y) ∙ high_shifts k h (shifted y)
 
-table_is : TABLE ≡ map (shifts 8) (range_with_len 0 256)
-unfolding shifts
-table_is = refl
-
-at_table : (i : ℕ) → i < 256 → get_or TABLE i 0 ≡ shifts 8 i
-at_table i h = ap (λ t. get_or t i 0) table_is ∙ get_or-map-range_with_len (shifts 8) 0 256 i i 0 h (omega arith)
-
-beside : (h y : ℕ) → y < 2 ^ 8 → bit_xor (h * 2 ^ 8) y ≡ h * 2 ^ 8 + y
+pub beside : (h y : ℕ) → y < 2 ^ 8 → bit_xor (h * 2 ^ 8) y ≡ h * 2 ^ 8 + y
 beside h y small =
     let none : h * 2 ^ 8 + 0 ≡ h * 2 ^ 8 = omega arith in
     let left : 0 * 2 ^ 8 + y ≡ y = omega arith in
@@ -60,12 +50,10 @@ apart r b h =
     ∙ ap (λ x. bit_xor x b) (sym (let e : bit_xor (r / 2 ^ 8 * 2 ^ 8) (r % 2 ^ 8) ≡ r / 2 ^ 8 * 2 ^ 8 + r % 2 ^ 8 = beside (r / 2 ^ 8) (r % 2 ^ 8) low in e))
     ∙ xor_assoc (r / 2 ^ 8 * 2 ^ 8) (r % 2 ^ 8) b
 
-pub by_table : (r b : ℕ) → b < 256 → bit_xor (get_or TABLE (bit_xor (r % 2 ^ 8) b) 0) (r / 2 ^ 8) ≡ with_byte r b
+pub a_byte_is_one_step : (r b : ℕ) → b < 256 → bit_xor (shifts 8 (bit_xor (r % 2 ^ 8) b)) (r / 2 ^ 8) ≡ with_byte r b
 unfolding with_byte
-by_table r b h =
-    let low : bit_xor (r % 2 ^ 8) b < 2 ^ 8 = let small : r % 2 ^ 8 < 2 ^ 8 = omega arith in xor_lt 8 (r % 2 ^ 8) b small h in
-    ap (λ x. bit_xor x (r / 2 ^ 8)) (at_table (bit_xor (r % 2 ^ 8) b) low)
-    ∙ xor_comm (shifts 8 (bit_xor (r % 2 ^ 8) b)) (r / 2 ^ 8)
+a_byte_is_one_step r b h =
+    xor_comm (shifts 8 (bit_xor (r % 2 ^ 8) b)) (r / 2 ^ 8)
     ∙ sym (high_shifts 8 (r / 2 ^ 8) (bit_xor (r % 2 ^ 8) b))
     ∙ ap (shifts 8) (sym (apart r b h))
 

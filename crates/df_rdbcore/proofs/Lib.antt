@@ -1,4 +1,6 @@
 pub mod CrcLaws
+pub mod TableLaws
+pub mod EightLaws
 pub mod TextLaws
 pub mod PartLaws
 pub mod FileLaws

@@ -30,7 +30,7 @@ lower Less p = refl
 lower Equal p = absurd p
 lower Greater p = absurd p
 
-tied_self : (x : Bytes) → tied x x ≡ true
+pub tied_self : (x : Bytes) → tied x x ≡ true
 tied_self x = ap is_eq (tied_itself nat_list_cmp_total x)
 
 apart : (x y : Bytes) → tied x y ≡ false → x ≢ y

@@ -1,5 +1,5 @@
 -- What the code sees at the front of bytes is what stands there.
-use Rattle.std.proofs.Common.{◌≡◌, ℕ, ℤ, zero, suc, ◌+◌, ◌-◌, ◌%◌, ◌^◌, ◌<◌, ◌≤◌, inl, inr, [], ◌∷◌, ◌++◌, length, get_or, take, drop, sym, ap, subst, ◌∙◌, arith, append_assoc, length-append, take-add}
+use Rattle.std.proofs.Common.{◌≡◌, ℕ, ℤ, zero, suc, ◌+◌, ◌-◌, ◌%◌, ◌^◌, ◌<◌, ◌≤◌, inl, inr, [], ◌∷◌, ◌++◌, length, get_or, take, drop, sym, ap, subst, ◌∙◌, arith, append_assoc, length-append, take-add, take-append-drop}
 use Rattle.std.specs.Int.{w8, w16, w32, cast_signed, to_le_bytes}
 use Rattle.std.specs.Fmt.{signed_decimal}
 use Rattle.std.proofs.lemmas.Grind.{common_steps}
@@ -8,9 +8,6 @@ use Rattle.df_model.specs.Framing.{IsWord, MAX_WORD}
 use Rattle.df_rdbcore.specs.Texts.{IsLength, IsText, NumberForm, mark, width}
 use Rattle.df_rdbcore.specs.Seen.{NoneBegins, BeginsNoText, BeginsCompressed, BeginsTooLong, AwaitsLength, AwaitsText}
 use Rattle.df_rdbcore.proofs.TextLaws.{mark_high, Headed, headed, length_one}
-
-take_drop : (n : ℕ) (bytes : Bytes) → take n bytes ++ drop n bytes ≡ bytes
-take_drop n bytes = grind (arith, common_steps)
 
 get_first : (bytes : Bytes) (b : ℕ) (bs : Bytes) → bytes ≡ b ∷ bs → get_or bytes 0 0 ≡ b
 get_first bytes b bs e = ap (λ z. get_or z 0 0) e
@@ -52,14 +49,14 @@ awaits_text bytes low a = record {
 }
 
 pub too_long : (bytes : Bytes) (n used : ℕ) → IsLength (take used bytes) n → MAX_WORD < n → BeginsTooLong bytes
-too_long bytes n used l big = (take used bytes, n, drop used bytes, l, big, sym (take_drop used bytes))
+too_long bytes n used l big = (take used bytes, n, drop used bytes, l, big, sym (take-append-drop used bytes))
 
 -- any length at the front is the one that was seen
 same_length : (bytes form tail : Bytes) (n m used : ℕ) → IsLength (take used bytes) n → IsLength form m → bytes ≡ form ++ tail → (n ≡ m) × (drop used bytes ≡ tail)
-same_length bytes form tail n m used l p e = length_one (take used bytes) form (drop used bytes) tail n m l p (take_drop used bytes ∙ e)
+same_length bytes form tail n m used l p e = length_one (take used bytes) form (drop used bytes) tail n m l p (take-append-drop used bytes ∙ e)
 
 seen_low : (bytes : Bytes) (n used : ℕ) → IsLength (take used bytes) n → get_or bytes 0 0 < 130
-seen_low bytes n used l = low_first bytes (take used bytes) (drop used bytes) n l (sym (take_drop used bytes))
+seen_low bytes n used l = low_first bytes (take used bytes) (drop used bytes) n l (sym (take-append-drop used bytes))
 
 no_whole : (bytes : Bytes) (n used : ℕ) → used ≤ length bytes → IsLength (take used bytes) n → length bytes - used < n → NoneBegins IsText bytes
 no_whole bytes n used within l short form text tail (IsText.Plain head p w i) e =

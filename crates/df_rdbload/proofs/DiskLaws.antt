@@ -1,7 +1,6 @@
 -- What a read of the disk makes of how far reading has come.
-use Rattle.std.proofs.Common.{◌≡◌, ℕ, zero, suc, ◌+◌, ◌-◌, ◌^◌, ◌<◌, ◌≤◌, inl, inr, Bool, true, false, cond, [], ◌∷◌, ◌++◌, length, take, drop, refl, sym, ap, subst, ◌∙◌, arith, append_assoc, append-nil, length-append}
+use Rattle.std.proofs.Common.{◌≡◌, ℕ, zero, suc, ◌+◌, ◌-◌, ◌^◌, ◌<◌, ◌≤◌, inl, inr, Bool, true, false, cond, [], ◌∷◌, ◌++◌, length, take, drop, refl, sym, ap, subst, ◌∙◌, arith, append_assoc, append-nil, length-append, take-append-drop}
 use Rattle.std.specs.Prelude.{Option, Some, None, Ok, Err}
-use Rattle.std.proofs.lemmas.Grind.{common_steps}
 use Rattle.std.proofs.lemmas.List.{drop-drop, length-take}
 use Rattle.df_model.specs.Values.{Bytes}
 use Rattle.df_outside.specs.Disks.{Stored, Told, Holds, IsPast}
@@ -94,9 +93,6 @@ keep_caused (faults.BadChecksum stored computed at) n m next f = tt
 
 -- ---- lists
 
-take_drop : (n : ℕ) (bytes : Bytes) → take n bytes ++ drop n bytes ≡ bytes
-take_drop n bytes = grind (arith, common_steps)
-
 drop_all : (n : ℕ) (bytes : Bytes) → length bytes ≤ n → drop n bytes ≡ []
 drop_all zero [] h = refl
 drop_all zero (b ∷ bytes) h = absurd (omega arith)
@@ -108,7 +104,7 @@ drop_all (suc n) (b ∷ bytes) h = drop_all n bytes (omega arith)
 left_on : (piece file rest rest' : Bytes) (next next' : ℕ) → Holds (Some file) next piece → rest' ≡ rest ++ piece → next' ≡ next + length piece → rest' ++ drop next' file ≡ rest ++ drop next file
 left_on piece file rest rest' next next' holds e n =
     let seam : piece ++ drop (next + length piece) file ≡ drop next file =
-    ap (λ z. z ++ drop (next + length piece) file) holds.1 ∙ ap (λ z. take (length piece) (drop next file) ++ z) (sym (drop-drop (length piece) next file)) ∙ take_drop (length piece) (drop next file) in
+    ap (λ z. z ++ drop (next + length piece) file) holds.1 ∙ ap (λ z. take (length piece) (drop next file) ++ z) (sym (drop-drop (length piece) next file)) ∙ take-append-drop (length piece) (drop next file) in
     ap (λ z. z ++ drop next' file) e ∙ ap (λ k. (rest ++ piece) ++ drop k file) n ∙ append_assoc rest piece (drop (next + length piece) file) ∙ ap (λ z. rest ++ z) seam
 
 pub false_true : {A : Type 0} (b : Bool) → b ≡ false → b ≡ true → A

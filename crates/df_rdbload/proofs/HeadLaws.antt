@@ -1,7 +1,6 @@
 -- A fixed text, read byte by byte, and the digits of a version.
-use Rattle.std.proofs.Common.{◌≡◌, ℕ, zero, suc, ◌+◌, ◌/◌, ◌%◌, ◌<◌, ◌≤◌, inl, inr, Bool, true, false, [], ◌∷◌, ◌++◌, length, get_or, take, drop, refl, sym, ap, subst, ◌∙◌, arith, append-nil, length-append, drop-cons}
+use Rattle.std.proofs.Common.{◌≡◌, ℕ, zero, suc, ◌+◌, ◌/◌, ◌%◌, ◌<◌, ◌≤◌, inl, inr, Bool, true, false, [], ◌∷◌, ◌++◌, length, get_or, take, drop, refl, sym, ap, subst, ◌∙◌, arith, append-nil, length-append, take-append-drop, drop-cons}
 use Rattle.std.specs.Prelude.{◌⊎◌, codes}
-use Rattle.std.proofs.lemmas.Grind.{common_steps}
 use Rattle.std.proofs.lemmas.List.{take_more, length-take}
 use Rattle.df_model.specs.Values.{Bytes}
 use Rattle.df_rdbcore.specs.Files.{head}
@@ -51,9 +50,6 @@ agrees_itself (x ∷ text) more = (refl, agrees_itself text more)
 abbrev pub IsFront : Bytes → Bytes → ℕ → Type 0
 IsFront text form i = form ≡ take i text
 
-take_drop : (n : ℕ) (bytes : Bytes) → take n bytes ++ drop n bytes ≡ bytes
-take_drop n bytes = grind (arith, common_steps)
-
 pub take_whole : (n : ℕ) (bytes : Bytes) → length bytes ≤ n → take n bytes ≡ bytes
 take_whole zero [] h = refl
 take_whole zero (b ∷ bytes) h = absurd (omega arith)
@@ -65,7 +61,7 @@ literal_on text form more i b lt is p q = ap (λ z. z ++ more) p ∙ ap (λ z. t
 
 pub literal_other : (text form more : Bytes) (i b : ℕ) → i < length text → (b ≡ get_or text i 0 → ⊥) → form ≡ take i text → more ≡ b ∷ [] → Agrees text (form ++ more) → ⊥
 literal_other text form more i b lt other p q a =
-    let whole : text ≡ take i text ++ (get_or text i 0 ∷ drop (suc i) text) = sym (take_drop i text) ∙ ap (λ z. take i text ++ z) (drop-cons text i 0 lt) in
+    let whole : text ≡ take i text ++ (get_or text i 0 ∷ drop (suc i) text) = sym (take-append-drop i text) ∙ ap (λ z. take i text ++ z) (drop-cons text i 0 lt) in
     let there : form ++ more ≡ take i text ++ (b ∷ []) = ap (λ z. z ++ more) p ∙ ap (λ z. take i text ++ z) q in
     let first : Agrees (take i text ++ (get_or text i 0 ∷ drop (suc i) text)) (take i text ++ (b ∷ [])) = subst (λ z. Agrees z (take i text ++ (b ∷ []))) whole (subst (Agrees text) there a) in
     other (sym (agrees_behind (take i text) (get_or text i 0 ∷ drop (suc i) text) (b ∷ []) first).0)
@@ -76,7 +72,7 @@ literal_whole text form i le p = p ∙ take_whole i text le
 pub literal_stops : (text : Bytes) (i : ℕ) (old : Stage) → i < length text → Lifts (IsFront text) i ByteStops (LiteralStops text) old
 literal_stops text i old lt size at rest form behind fault place p whole h =
     let all : rest ≡ take i text = whole ∙ ap (λ z. form ++ z) h.0 ∙ append-nil form ∙ p in
-    let agrees : Agrees text (take i text) = subst (λ z. Agrees z (take i text)) (take_drop i text) (subst (Agrees (take i text ++ drop i text)) (append-nil (take i text)) (agrees_within (take i text) (drop i text) [] (agrees_none (drop i text)))) in
+    let agrees : Agrees text (take i text) = subst (λ z. Agrees z (take i text)) (take-append-drop i text) (subst (Agrees (take i text ++ drop i text)) (append-nil (take i text)) (agrees_within (take i text) (drop i text) [] (agrees_none (drop i text)))) in
     let long = length-take i text in
     let all_long = ap length all in (
       subst (Agrees text) (sym all) agrees,

@@ -3,8 +3,7 @@ use Rattle.std.proofs.Common.{◌≡◌, ◌≢◌, inl, inr, Bool, true, false,
 use Rattle.std.specs.Prelude.{Option, Some, None, is_some, not}
 use Rattle.std.specs.Option.{option_map}
 use Rattle.std.specs.Map.{lookup}
-use Rattle.std.specs.Ordering.{nat_cmp, is_eq}
-use Rattle.std.specs.Cmp.{tied_itself}
+use Rattle.std.specs.Ordering.{nat_cmp}
 use Rattle.std.specs.Cmp.Lexicographic.{slice_cmp, nat_list_cmp_total, texts_ties}
 use Rattle.std.specs.List.{AllByRecursion}
 use Rattle.std.specs.FinMap.{find, get-from_entries, get-insert, from_entries, from_entries_push, slice_cmp-IsAntisymmetric, nat_cmp-IsAntisymmetric}
@@ -19,6 +18,7 @@ use Rattle.df_values.specs.Seen.{seen}
 use Rattle.df_values.specs.declared.value.Value.{Value}
 use Rattle.df_rdbcore.specs.Parts.{Entry, InTurn, NoneTwice, Pair, firsts, members_of, fields_of}
 use Rattle.df_rdbcore.specs.Files.{keyspace_of}
+use Rattle.df_rdbcore.proofs.MapLaws.{tied_self}
 use Rattle.df_rdbload.specs.Stops.{IsIn}
 use Rattle.df_rdbload.specs.FileStops.{added}
 use Rattle.df_rdbload.specs.Entries.{keyspace_in, Adds}
@@ -52,9 +52,6 @@ added_some (None ∷ parts) entry = added_some parts entry
 added_some (Some other ∷ parts) entry = ap (λ z. other ∷ z) (added_some parts entry)
 
 -- ---- keys among entries
-
-tied_self : (x : Bytes) → tied x x ≡ true
-tied_self x = ap is_eq (tied_itself nat_list_cmp_total x)
 
 module _ {X : Type 0} where
   found_where : (b : Bool) (k : Bytes) (e : Bytes × X) (es : List (Bytes × X)) → tied k e.0 ≡ b → is_some (cond b (Some e.1) (find (slice_cmp nat_cmp) k es)) ≡ true

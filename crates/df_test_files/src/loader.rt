@@ -71,8 +71,8 @@ const BODIES: &[(&[u8], LoadFault)] = &[
     ),
 ];
 
-/// Heads with their faults.
-const HEADS: &[(&[u8], LoadFault)] = &[
+/// Whole files with their faults: heads that are wrong or cut, and a file whose list is in a compact form.
+const FILES: &[(&[u8], LoadFault)] = &[
     (b"REDIT", LoadFault::BadMagic),
     (b"X", LoadFault::BadMagic),
     (b"REDIS1", LoadFault::BadVersion),
@@ -80,6 +80,10 @@ const HEADS: &[(&[u8], LoadFault)] = &[
     (b"REDIS0013", LoadFault::BadVersion),
     (b"REDIS001", LoadFault::Truncated { at: 8 }),
     (b"REDIS0012", LoadFault::Truncated { at: 9 }),
+    (
+        b"REDIS0011\xfa\x09redis-ver\x057.2.4\xfa\x0aredis-bits\xc0\x40\xfe\x00\xfb\x04\x00\x00\x01a\xc0\x01\x12\x01l\x01\x02\x0c",
+        LoadFault::Unsupported { code: 18, at: 50 },
+    ),
 ];
 
 /// How many keys a file with these bytes has, or its fault.
@@ -125,8 +129,8 @@ fn a_file_that_is_cut_ends_too_early(rt: HostRuntime) -> Result<(), Fail> {
 
 #[test]
 fn the_first_fault_is_told(rt: HostRuntime) -> Result<(), Fail> {
-    for (head, fault) in HEADS {
-        assert_eq!(rt; keys_of(rt.alloc(), head)?, Err(*fault));
+    for (file, fault) in FILES {
+        assert_eq!(rt; keys_of(rt.alloc(), file)?, Err(*fault));
     }
     for (body, fault) in BODIES {
         let mut file = Vec::from_slice(rt.alloc(), b"REDIS0009")?;

@@ -1,12 +1,12 @@
-use Rattle.std.proofs.Common.{◌/◌, ◌^◌, ◌∙◌, ap, get_or, arith}
+use Rattle.std.proofs.Common.{◌/◌, ◌^◌, ◌∙◌, ap, arith}
 use Rattle.std.specs.Prelude.{bit_xor}
 use Rattle.std.proofs.lemmas.Nat.{and_mask}
-use Rattle.df_rdbcore.specs.declared.crc_table.TheConstants.{TABLE}
-use Rattle.df_rdbcore.proofs.CrcLaws.{by_table}
+use Rattle.df_rdbcore.specs.Crc.{shifts}
+use Rattle.df_rdbcore.proofs.CrcLaws.{a_byte_is_one_step}
 use Rattle.df_rdbcore.proofs.crc.step.Goals as goal
 
 pub returns : goal.returns
 returns c =
-    ap (λ x. bit_xor x (c.args.sum / 2 ^ 8)) c.at_table.ensures
-    ∙ ap (λ m. bit_xor (get_or TABLE (bit_xor m c.args.byte) 0) (c.args.sum / 2 ^ 8)) (and_mask c.args.sum 8)
-    ∙ by_table c.args.sum c.args.byte (omega arith)
+    ap (λ x. bit_xor x (c.args.sum / 2 ^ 8)) c.moved.ensures
+    ∙ ap (λ m. bit_xor (shifts 8 (bit_xor m c.args.byte)) (c.args.sum / 2 ^ 8)) (and_mask c.args.sum 8)
+    ∙ a_byte_is_one_step c.args.sum c.args.byte (omega arith)
