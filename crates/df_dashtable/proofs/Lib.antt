@@ -1,0 +1,16 @@
+pub mod HashLaws
+pub mod ShareLaws
+pub mod CutLaws
+pub mod SendLaws
+pub mod OnceLaws
+pub mod TouchLaws
+pub mod PutLaws
+pub mod SplitLaws
+pub mod TableLaws
+pub mod StepLaws
+pub mod SpotLaws
+pub mod HoldsLaws
+pub mod ClearLaws
+pub mod CountLaws
+pub mod KeyLaws
+pub mod WalkLaws
