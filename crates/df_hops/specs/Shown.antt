@@ -10,7 +10,7 @@ use Rattle.df_log.specs.declared.entry.Entry.{Entry}
 use Rattle.df_core.specs.Due.{due}
 use Rattle.df_book.specs.Logs.{is_passed}
 use Rattle.df_book.specs.Draws.{call_at, draws_of}
-use Rattle.df_book.specs.Passes.{Receipt}
+use Rattle.df_book.specs.Passes.{BookName, Receipt}
 use Rattle.df_hops.specs.Parts.{shards_in}
 use Rattle.df_hops.specs.declared.answer.Why.{Why}
 use Rattle.df_hops.specs.declared.answer.Why.TheVariants as whys
@@ -74,6 +74,14 @@ shard_of s (Some r) = r.shard
 
 abbrev pub shard_shown : ℕ → AnswerBody → ℕ
 shard_shown s body = shard_of s (receipt_in body)
+
+-- whose book it is of, or this one where there is none
+abbrev pub book_of : BookName → Option Receipt → BookName
+book_of z None = z
+book_of z (Some r) = r.book
+
+abbrev pub book_shown : BookName → AnswerBody → BookName
+book_shown z body = book_of z (receipt_in body)
 
 -- who shows a receipt shows a draw of the number
 abbrev pub needs : Option Receipt → ℕ
