@@ -5,9 +5,10 @@ ghost use Rattle.df_model.specs.declared.command.Call.{Call};
 ghost use Rattle.df_model.specs.declared.keys.Keys.{Keys};
 ghost use Rattle.df_txqueue.specs.Places.{with_place};
 ghost use Rattle.df_hops.specs.Said.{call_said, keys_said};
+ghost use Rattle.df_hops.specs.Shown.{book_shown};
 ghost use Rattle.df_hops.specs.declared.message.Body.TheVariants as bodies;
 ghost use Rattle.df_shard.specs.Arming.{after_hop};
-ghost use Rattle.df_shard.specs.Bodies.{is_hop, is_quick, is_schedule, is_silent, limit_answered, limit_scheduled};
+ghost use Rattle.df_shard.specs.Bodies.{is_hop, is_plain, is_quick, is_schedule, is_silent, limit_answered, limit_scheduled};
 ghost use Rattle.df_shard.specs.Came.{with_pass};
 ghost use Rattle.df_shard.specs.Holds.{place_for, tail_of};
 ghost use Rattle.df_shard.specs.Leaving.{after_leave};
@@ -26,6 +27,7 @@ impl Shard {
         ensures book { self.new.pass.book ≡ book.now }
         ensures same { (self.new.index ≡ self.old.index) × (self.new.shards ≡ self.old.shards) × (self.new.first ≡ self.old.first) }
         ensures answered { IfSome result (λ answer. (answer.number ≡ m.number) × (answer.shard ≡ m.shard) × (answer.conn ≡ m.conn)) }
+        ensures receipt { IfSome result (λ answer. book_shown book.now answer.body ≡ book.now) }
         ensures astray { m.shard ≢ self.old.index → self.new ≡ self.old }
         ensures silent { is_silent m.body ≡ true → is_some result ≡ false }
         ensures none { IfNone result ((is_silent m.body ≡ true) ⊎ ((is_quick m.body ≡ true) × (self.new.places ≡ with_place (place_for m.number false) self.old.places))) }
@@ -61,6 +63,7 @@ impl Shard {
 /// What is answered where nothing was done.
 fn misled(m: Message) -> Option<Answer>
     ensures answered { IfSome result (λ answer. (answer.number ≡ m.number) × (answer.shard ≡ m.shard) × (answer.conn ≡ m.conn)) }
+    ensures plain { IfSome result (λ answer. is_plain answer.body ≡ true) }
     ensures silent { is_silent m.body ≡ true → is_some result ≡ false }
     ensures none { IfNone result (is_silent m.body ≡ true) }
 {
@@ -77,6 +80,7 @@ fn misled(m: Message) -> Option<Answer>
 
 fn freed(m: Message) -> Option<Answer>
     ensures answered { IfSome result (λ answer. (answer.number ≡ m.number) × (answer.shard ≡ m.shard) × (answer.conn ≡ m.conn)) }
+    ensures plain { IfSome result (λ answer. is_plain answer.body ≡ true) }
     ensures some { is_some result ≡ true }
 {
     Some(plain_answer(m.conn, m.shard, m.number, AnswerBody::Freed))

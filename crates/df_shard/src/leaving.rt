@@ -5,6 +5,7 @@ ghost use Rattle.std.specs.List.{filter};
 ghost use Rattle.df_intents.specs.Holders as holders;
 ghost use Rattle.df_hops.specs.declared.message.Body.TheVariants as bodies;
 ghost use Rattle.df_hops.specs.declared.answer.AnswerBody.TheVariants as answers;
+ghost use Rattle.df_shard.specs.Bodies.{is_plain};
 ghost use Rattle.df_shard.specs.Holds.{staged_at, wait_at, wait_of};
 ghost use Rattle.df_shard.specs.Leaving.{after_leave, may_leave};
 ghost use Rattle.df_shard.specs.Changes.{left, waiting_without};
@@ -40,6 +41,7 @@ impl Shard {
         ensures left { self.new ≡ after_leave true (with_pass self.old self.new.pass) m.number }
         ensures answered { (result.number ≡ m.number) × (result.shard ≡ m.shard) × (result.conn ≡ m.conn) }
         ensures freed { result.body ≡ answers.Freed }
+        ensures plain { is_plain result.body ≡ true }
     {
         self.let_go(book, m, true)
     }
@@ -53,6 +55,7 @@ impl Shard {
         ensures left { self.new ≡ after_leave false (with_pass self.old self.new.pass) m.number }
         ensures answered { (result.number ≡ m.number) × (result.shard ≡ m.shard) × (result.conn ≡ m.conn) }
         ensures freed { result.body ≡ answers.Freed }
+        ensures plain { is_plain result.body ≡ true }
     {
         self.let_go(book, m, false)
     }

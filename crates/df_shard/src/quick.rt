@@ -5,7 +5,7 @@ ghost use Rattle.df_model.specs.declared.command.Call.{Call};
 ghost use Rattle.df_footprints.specs.Footprints.{only_key};
 ghost use Rattle.df_txqueue.specs.Places.{with_place};
 ghost use Rattle.df_hops.specs.Said.{call_said};
-ghost use Rattle.df_hops.specs.Shown.{limit_of};
+ghost use Rattle.df_hops.specs.Shown.{book_shown, limit_of};
 ghost use Rattle.df_hops.specs.declared.answer.Why.TheVariants as whys;
 ghost use Rattle.df_shard.specs.Bodies.{is_quick, is_unheard, limit_answered, was_passed, why_in};
 ghost use Rattle.df_shard.specs.Came.{Brought, with_pass};
@@ -32,6 +32,7 @@ impl Shard {
         ensures book { self.new.pass.book ≡ book.now }
         ensures same { (self.new.index ≡ self.old.index) × (self.new.shards ≡ self.old.shards) × (self.new.first ≡ self.old.first) }
         ensures answered { IfSome result (λ answer. (answer.number ≡ m.number) × (answer.shard ≡ m.shard) × (answer.conn ≡ m.conn)) }
+        ensures receipt { IfSome result (λ answer. book_shown book.now answer.body ≡ book.now) }
         // Refused by what ran, exactly.
         ensures ran { m.number ≤ self.old.ran → limit_answered result ≡ Some self.old.ran }
         // Or by the tail, only where its keys are held and it would go in front of a call that waits.
@@ -57,6 +58,7 @@ impl Shard {
         ensures book { self.new.pass.book ≡ book.now }
         ensures same { (self.new.index ≡ self.old.index) × (self.new.shards ≡ self.old.shards) × (self.new.first ≡ self.old.first) }
         ensures answered { (result.number ≡ asked.number) × (result.shard ≡ self.old.index) × (result.conn ≡ asked.conn) }
+        ensures receipt { book_shown book.now result.body ≡ book.now }
         ensures body { why_in result.body ≡ None }
     {
         let Asked {
@@ -87,6 +89,7 @@ impl Shard {
         ensures book { self.new.pass.book ≡ book.now }
         ensures pass { self.new ≡ with_pass self.old self.new.pass }
         ensures answered { (result.number ≡ asked.number) × (result.shard ≡ self.old.index) × (result.conn ≡ asked.conn) }
+        ensures receipt { book_shown book.now result.body ≡ book.now }
         ensures body { why_in result.body ≡ Some why }
     {
         let Asked {
@@ -113,6 +116,7 @@ impl Shard {
         ensures book { self.new.pass.book ≡ book.now }
         ensures same { (self.new.index ≡ self.old.index) × (self.new.shards ≡ self.old.shards) × (self.new.first ≡ self.old.first) }
         ensures answered { IfSome result (λ answer. (answer.number ≡ asked.number) × (answer.shard ≡ self.old.index) × (answer.conn ≡ asked.conn) × (why_in answer.body ≡ Some whys.NoMemory)) }
+        ensures receipt { IfSome result (λ answer. book_shown book.now answer.body ≡ book.now) }
         ensures passed { OnSome result (self.new ≡ with_pass self.old self.new.pass) }
         ensures waits { IfNone result (self.new.places ≡ with_place (place_for asked.number false) self.old.places) }
     {

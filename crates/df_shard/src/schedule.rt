@@ -55,6 +55,7 @@ impl Shard {
         ensures book { self.new.pass.book ≡ book.now }
         ensures same { (self.new.index ≡ self.old.index) × (self.new.shards ≡ self.old.shards) × (self.new.first ≡ self.old.first) }
         ensures answered { (result.number ≡ m.number) × (result.shard ≡ m.shard) × (result.conn ≡ m.conn) }
+        ensures plain { is_plain result.body ≡ true }
         // Refused by what ran, exactly.
         ensures ran { m.number ≤ self.old.ran → limit_in result.body ≡ Some self.old.ran }
         // Or by the tail, exactly where its keys are held and it would go in front of a call that waits.

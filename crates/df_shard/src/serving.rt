@@ -4,6 +4,7 @@ ghost use Rattle.std.specs.Prelude.{◌≡◌, ◌<◌, ◌≤◌, true, false, 
 ghost use Rattle.df_log.specs.Parts.{own_keys};
 ghost use Rattle.df_book.specs.Weights.{Each};
 ghost use Rattle.df_hops.specs.Parts.{act_of};
+ghost use Rattle.df_hops.specs.Shown.{book_shown};
 ghost use Rattle.df_shard.specs.Facts.{Facts};
 ghost use Rattle.df_shard.specs.Holds.{Hopping, Wait, call_act, hopping, puts_in, staged_at, wait_at, wait_of};
 ghost use Rattle.df_shard.specs.MayRun.{has_armed, is_head, is_ready, may_run};
@@ -51,6 +52,7 @@ impl Shard {
         ensures same { (self.new.index ≡ self.old.index) × (self.new.shards ≡ self.old.shards) × (self.new.first ≡ self.old.first) }
         ensures idle { IfNone result ((self.new ≡ self.old) × Each (λ w. is_ready self.old.places w ≡ false) self.old.waiting) }
         ensures answered { IfSome result (λ answer. (answer.shard ≡ self.old.index) × (w : Wait) × (wait_at answer.number self.old.waiting ≡ Some w) × (is_ready self.old.places w ≡ true) × (answer.conn ≡ w.conn)) }
+        ensures receipt { IfSome result (λ answer. book_shown book.now answer.body ≡ book.now) }
     {
         let Some(at) = ready(&self.queue, &self.waiting) else {
             return None;
@@ -88,6 +90,7 @@ impl Shard {
         requires facts { Facts self.old.index number hop body }
         ensures same { (self.new.pass ≡ self.old.pass) × (self.new.index ≡ self.old.index) × (self.new.shards ≡ self.old.shards) × (self.new.first ≡ self.old.first) }
         ensures answered { (result.shard ≡ self.old.index) × (result.number ≡ number) × (result.conn ≡ conn) }
+        ensures body { result.body ≡ body }
     {
         self.leave(number);
         Answer {
