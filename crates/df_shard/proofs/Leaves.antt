@@ -12,9 +12,10 @@ use Rattle.df_end.proofs.ShardLaws.{shards_let_go}
 use Rattle.df_shard.specs.Owns.{OwnPart}
 use Rattle.df_shard.specs.Holds.{View, Holds, Wait, Waits, armed_in, part_in, staged_at, wait_of, world_of}
 use Rattle.df_shard.specs.Changes.{left, waiting_without}
+use Rattle.df_shard.specs.Leaving.{IsGone}
 use Rattle.df_shard.specs.declared.waiting.Waiting.{Waiting}
-use Rattle.df_shard.proofs.Queues.{same-leave, same-holders, queued-without}
-use Rattle.df_shard.proofs.Waitings.{armed-without, each-without, once-without, puts-without, staged-without}
+use Rattle.df_shard.proofs.Queues.{holds-without, queued-none, queued-without, same-holders, same-leave}
+use Rattle.df_shard.proofs.Waitings.{armed-without, at-without, each-without, once-without, puts-without, staged-without}
 
 same-part : (x : View) (n : ℕ) → staged_at n x.waiting ≡ [] → part_in x ≡ part_in (left x n)
 same-part x n bare = λ j. record { visible = x.keys; staged = λ m. sym (staged-without n x.waiting bare m) j }
@@ -47,6 +48,9 @@ leaves x n h bare = record {
   room = omega (arith, h.room, puts-without n x.waiting);
   mine = subst (OwnPart x.shards x.index) (same-part x n bare) h.mine;
 }
+
+pub gone-left : (x : View) (n : ℕ) → IsGone n (left x n)
+gone-left x n = record { waits = at-without n x.waiting; place = queued-none n x.places; intents = holds-without n x.holders }
 
 pub waiting-filtered : (n : ℕ) (ws : List Waiting) → map wait_of (filter (λ (w : Waiting). not (w.number == n)) ws) ≡ waiting_without n (map wait_of ws)
 waiting-filtered n [] = refl

@@ -13,6 +13,7 @@ use Rattle.df_txqueue.specs.Places as queue
 use Rattle.df_txqueue.specs.Places.{is_queued}
 use Rattle.df_txqueue.specs.declared.place.Place as at
 use Rattle.df_intents.specs.Holders as intents
+use Rattle.df_intents.proofs.HolderLaws.{keys_without}
 use Rattle.df_shard.specs.Holds.{place_of, holder_of, tail_of}
 use Rattle.df_shard.proofs.Bare.{not-both}
 
@@ -95,6 +96,14 @@ queued-without n m (p ∷ ps) ne h = dite (ℕ_discrete p.number n)
     (λ (no : p.number ≢ n). subst (λ b. is_queued m (cond b (queue.without n ps) (p ∷ queue.without n ps)) ≡ true) (sym (ne_eqb p.number n no))
     (either-some (p.number == m) p (queue.place_of m ps) (queue.place_of m (queue.without n ps)) (queued-without n m ps ne) h))
 
+-- who left has none
+pub queued-none : (n : ℕ) (ps : List at.Place) → is_queued n (queue.without n ps) ≡ false
+queued-none n [] = refl
+queued-none n (p ∷ ps) = dite (ℕ_discrete p.number n)
+    (λ (is : p.number ≡ n). subst (λ b. is_queued n (cond b (queue.without n ps) (p ∷ queue.without n ps)) ≡ false) (sym (eq-eqb p.number n is)) (queued-none n ps))
+    (λ (no : p.number ≢ n). subst (λ b. is_queued n (cond b (queue.without n ps) (p ∷ queue.without n ps)) ≡ false) (sym (ne_eqb p.number n no))
+    (ap (λ b. is_some (cond b (Some p) (queue.place_of n (queue.without n ps)))) (ne_eqb p.number n no) ∙ queued-none n ps))
+
 -- who has no place isn't among the order law's
 pub not-in : (n : ℕ) (ps : List at.Place) → is_queued n ps ≡ false → (q : order.Place) → Has (map place_of ps) q → q.number ≢ n
 not-in n [] h q k = absurd k
@@ -137,6 +146,10 @@ holder-in shards n (h ∷ hs) e = dite (ℕ_discrete h.number n)
     (λ (ne : h.number ≢ n).
     let r = holder-in shards n hs (sym (ap (λ b. is_some (cond b (Some h.keys) (intents.keys_of n hs))) (ne_eqb h.number n ne)) ∙ e) in
     (r.0, inr r.1, r.2))
+
+-- who let go holds nothing
+pub holds-without : (n : ℕ) (hs : List intents.Holder) → intents.holds n (intents.without n hs) ≡ false
+holds-without n hs = ap is_some (keys_without n n hs ∙ ap (λ b. cond b None (intents.keys_of n hs)) (eq-eqb n n refl))
 
 -- where each holder has its place, who has none holds nothing
 pub holds-none : (shards n : ℕ) (hs : List intents.Holder) (ps : List at.Place) →

@@ -114,6 +114,18 @@ is_plain (answers.Pulled out done receipt) = false
 
 -- ---- what a Quick is answered
 
+-- its call is done on the shard: a Quick was passed or ran
+abbrev pub ends_quick : AnswerBody → Bool
+ends_quick answers.Taken = false
+ends_quick (answers.Refused limit) = false
+ends_quick answers.NoMemory = false
+ends_quick (answers.Passed why slip receipt) = true
+ends_quick (answers.Ran slip receipt keys) = true
+ends_quick (answers.Wanted slip receipt) = true
+ends_quick (answers.Did outcome receipt keys) = false
+ends_quick answers.Freed = false
+ends_quick (answers.Pulled out done receipt) = false
+
 abbrev pub why_answered : Option Answer → Option Why
 why_answered None = None
 why_answered (Some answer) = why_in answer.body

@@ -1,12 +1,15 @@
 //! Armed hops run in their turn: a call's that was granted what it asked for, or the oldest call's.
 
-ghost use Rattle.std.specs.Prelude.{◌≡◌, ◌<◌, ◌≤◌, true, false, None, Some, IfNone, IfSome, [], length, slice_index_or, map};
+ghost use Rattle.std.specs.Prelude.{◌≡◌, ◌≢◌, ℕ, ◌<◌, ◌≤◌, true, false, None, Some, IfNone, IfSome, [], length, slice_index_or, map};
 ghost use Rattle.df_log.specs.Parts.{own_keys};
 ghost use Rattle.df_book.specs.Weights.{Each};
 ghost use Rattle.df_hops.specs.Parts.{act_of};
 ghost use Rattle.df_hops.specs.Shown.{book_shown};
+ghost use Rattle.df_shard.specs.Bodies.{ends_quick};
+ghost use Rattle.df_shard.specs.Changes.{left};
 ghost use Rattle.df_shard.specs.Facts.{Facts};
 ghost use Rattle.df_shard.specs.Holds.{Hopping, Wait, call_act, hopping, puts_in, staged_at, wait_at, wait_of};
+ghost use Rattle.df_shard.specs.Leaving.{IsGone};
 ghost use Rattle.df_shard.specs.MayRun.{has_armed, is_head, is_ready, may_run};
 ghost use Rattle.df_shard.specs.Served.{IsLinkedAct, ServedTo, armed_as};
 ghost use Rattle.df_shard.specs.declared.waiting.Armed.TheVariants as armeds;
@@ -52,6 +55,9 @@ impl Shard {
         ensures same { (self.new.index ≡ self.old.index) × (self.new.shards ≡ self.old.shards) × (self.new.first ≡ self.old.first) }
         ensures idle { IfNone result ((self.new ≡ self.old) × Each (λ w. is_ready self.old.places w ≡ false) self.old.waiting) }
         ensures answered { IfSome result (λ answer. (answer.shard ≡ self.old.index) × (w : Wait) × (wait_at answer.number self.old.waiting ≡ Some w) × (is_ready self.old.places w ≡ true) × (answer.conn ≡ w.conn)) }
+        ensures left { IfSome result (λ answer. ends_quick answer.body ≡ true → IsGone answer.number self.new) }
+        // The other calls wait as before.
+        ensures beside { IfSome result (λ answer. (n : ℕ) → n ≢ answer.number → wait_at n self.new.waiting ≡ wait_at n self.old.waiting) }
         ensures receipt { IfSome result (λ answer. book_shown book.now answer.body ≡ book.now) }
     {
         let Some(at) = ready(&self.queue, &self.waiting) else {
@@ -88,7 +94,7 @@ impl Shard {
     fn end_quick(&mut self, number: u64, conn: u32, hop: u32, body: AnswerBody) -> Answer
         requires bare { staged_at number self.old.waiting ≡ [] }
         requires facts { Facts self.old.index number hop body }
-        ensures same { (self.new.pass ≡ self.old.pass) × (self.new.index ≡ self.old.index) × (self.new.shards ≡ self.old.shards) × (self.new.first ≡ self.old.first) }
+        ensures left { self.new ≡ left self.old number }
         ensures answered { (result.shard ≡ self.old.index) × (result.number ≡ number) × (result.conn ≡ conn) }
         ensures body { result.body ≡ body }
     {

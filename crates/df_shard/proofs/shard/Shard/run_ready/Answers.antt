@@ -1,5 +1,5 @@
-use Rattle.std.proofs.Common.{◌≡◌, ◌∙◌, ap, sym, refl, subst, arith, ℕ, List, true, Bool}
-use Rattle.std.specs.Prelude.{Option, Some, None, if◌then◌else◌}
+use Rattle.std.proofs.Common.{◌≡◌, ◌≢◌, ◌∙◌, ap, sym, refl, subst, arith, ℕ, List, true, Bool}
+use Rattle.std.specs.Prelude.{Option, Some, None, map, slice_set, if◌then◌else◌}
 use Rattle.std.specs.Option.{option_map}
 use Rattle.df_model.specs.Values.{Bytes}
 use Rattle.df_log.specs.Acts.{Act, Told}
@@ -14,11 +14,13 @@ use Rattle.df_shard.specs.Fields.{view_of}
 use Rattle.df_shard.specs.Facts.{Facts}
 use Rattle.df_shard.specs.Holds.{View, Holds, Wait, staged_at, staged_of, wait_at, wait_of}
 use Rattle.df_shard.specs.Changes.{done_wait, with_wait}
+use Rattle.df_shard.specs.Leaving.{IsGone}
 use Rattle.df_shard.specs.MayRun.{is_ready}
 use Rattle.df_shard.specs.Served.{IsSaid, entry_of, is_quick_came}
+use Rattle.df_shard.proofs.Leaves.{gone-left}
 use Rattle.df_shard.proofs.Recorded.{Enters, pick}
 use Rattle.df_shard.proofs.Served.{DidHop, HopShown, InTurn, bare-here, due-part, due-quick, hop-enters, hop-shown, linked-here, ready-turn, serves}
-use Rattle.df_shard.proofs.Waitings.{at-index, at-with, puts-here, set-with}
+use Rattle.df_shard.proofs.Waitings.{at-index, at-with, at-with-else, at-without-else, puts-here, set-with}
 use Rattle.df_shard.proofs.shard.Shard.run_ready.Goals as goal
 
 pub serve-turned-requires-clause-linked : goal.serve-turned-requires-clause-linked
@@ -163,3 +165,27 @@ returns-in-OfPart-clause-answered c =
     let ready : is_ready x.places w ≡ true = subst (λ v. is_ready x.places (wait_of v) ≡ true) (sym c.index_mut-call.ensures.value) (c.in-Some.ensures.some w0) in
     let v = c.self.view_is in
     (ap (λ (y : View). y.index) v, w, sym (ap (λ (y : View). wait_at w.number y.waiting) v) ∙ here, sym (ap (λ (y : View). is_ready y.places w) v) ∙ ready, refl)
+
+pub returns-in-OfQuick-clause-left : goal.returns-in-OfQuick-clause-left
+returns-in-OfQuick-clause-left c =
+    let x : View = view_of c.self.inside in let new = c.serve-turned.new in let n : ℕ = c.index_mut-call.result.now.number in
+    let y : View = record x { ran = c.max-self-inside.result; waiting = map wait_of (slice_set c.self.inside.waiting.items c.in-Some.at new.call); keys = new.table.keys; kept = new.table.kept; pass = c.enter-receipt.new.pass } in
+    λ e. subst (λ (v : ℕ × View). IsGone v.0 v.1) (λ j. (sym c.end_quick.ensures.answered.1 j, sym c.end_quick.ensures.left j)) (gone-left y n)
+
+pub returns-in-OfQuick-clause-beside : goal.returns-in-OfQuick-clause-beside
+returns-in-OfQuick-clause-beside c =
+    let x : View = view_of c.self.inside in let items = c.self.inside.waiting.items in let w0 = c.index_mut-call.result.now in let w : Wait = wait_of w0 in let s = c.serve-turned.ensures in
+    λ m ne. let other : m ≢ w.number = λ e. ne (e ∙ sym c.end_quick.ensures.answered.1) in
+    ap (λ (y : View). wait_at m y.waiting) c.end_quick.ensures.left
+    ∙ at-without-else w.number (map wait_of (slice_set items c.in-Some.at c.serve-turned.new.call)) m other
+    ∙ ap (wait_at m) (set-with items c.in-Some.at w0 c.serve-turned.new.call c.self.invariant.once c.in-Some.ensures.within c.index_mut-call.ensures.value ∙ ap (λ v. with_wait w.number v x.waiting) s.after)
+    ∙ at-with-else w.number (done_wait w s.ran.hop s.changes) x.waiting m refl other
+    ∙ ap (λ (y : View). wait_at m y.waiting) c.self.view_is
+
+pub returns-in-OfPart-clause-beside : goal.returns-in-OfPart-clause-beside
+returns-in-OfPart-clause-beside c =
+    let x : View = view_of c.self.inside in let items = c.self.inside.waiting.items in let w0 = c.index_mut-call.result.now in let w : Wait = wait_of w0 in let s = c.serve-turned.ensures in
+    λ m other.
+    ap (wait_at m) (set-with items c.in-Some.at w0 c.serve-turned.new.call c.self.invariant.once c.in-Some.ensures.within c.index_mut-call.ensures.value ∙ ap (λ v. with_wait w.number v x.waiting) s.after)
+    ∙ at-with-else w.number (done_wait w s.ran.hop s.changes) x.waiting m refl other
+    ∙ ap (λ (y : View). wait_at m y.waiting) c.self.view_is
