@@ -100,6 +100,10 @@ is_taken (answers.Did outcome receipt keys) = false
 is_taken answers.Freed = false
 is_taken (answers.Pulled out done receipt) = false
 
+abbrev pub was_taken : Option Answer → Bool
+was_taken None = false
+was_taken (Some answer) = is_taken answer.body
+
 -- it has neither a slip nor a receipt
 abbrev pub is_plain : AnswerBody → Bool
 is_plain answers.Taken = true

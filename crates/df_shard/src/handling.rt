@@ -3,12 +3,13 @@
 ghost use Rattle.std.specs.Prelude.{◌≡◌, ◌≢◌, ◌⊎◌, ℕ, ◌<◌, ◌≤◌, true, false, None, Some, is_some, IfNone, IfSome};
 ghost use Rattle.df_model.specs.declared.command.Call.{Call};
 ghost use Rattle.df_model.specs.declared.keys.Keys.{Keys};
-ghost use Rattle.df_txqueue.specs.Places.{with_place};
+ghost use Rattle.df_footprints.specs.Footprints.{only_key};
+ghost use Rattle.df_txqueue.specs.Places.{is_queued, with_place};
 ghost use Rattle.df_hops.specs.Said.{call_said, keys_said};
 ghost use Rattle.df_hops.specs.Shown.{book_shown};
 ghost use Rattle.df_hops.specs.declared.message.Body.TheVariants as bodies;
 ghost use Rattle.df_shard.specs.Arming.{after_hop};
-ghost use Rattle.df_shard.specs.Bodies.{is_hop, is_plain, is_quick, is_schedule, is_silent, limit_answered, limit_scheduled};
+ghost use Rattle.df_shard.specs.Bodies.{is_hop, is_plain, is_quick, is_schedule, is_silent, is_unheard, limit_answered, limit_scheduled, was_passed, was_taken};
 ghost use Rattle.df_shard.specs.Came.{with_pass};
 ghost use Rattle.df_shard.specs.Holds.{place_for, tail_of};
 ghost use Rattle.df_shard.specs.Leaving.{after_leave};
@@ -34,11 +35,19 @@ impl Shard {
         ensures hop { m.shard ≡ self.old.index → is_hop m.body ≡ true → self.new ≡ after_hop (with_pass self.old self.new.pass) m.number m.body }
         ensures cancel { m.shard ≡ self.old.index → m.body ≡ bodies.Cancel → self.new ≡ after_leave true (with_pass self.old self.new.pass) m.number }
         ensures conclude { m.shard ≡ self.old.index → m.body ≡ bodies.Conclude → self.new ≡ after_leave false (with_pass self.old self.new.pass) m.number }
+        // No cut runs, so there is nothing to pull or drop.
+        ensures pulled { m.shard ≡ self.old.index → (hop : ℕ) → m.body ≡ bodies.Pull hop → self.new ≡ self.old }
+        ensures dropped { m.shard ≡ self.old.index → m.body ≡ bodies.DropCut → self.new ≡ self.old }
+        // A call that was taken has its place, and one that was not, or a Quick that was passed, has nothing.
+        ensures taken { m.shard ≡ self.old.index → is_schedule m.body ≡ true → was_taken result ≡ true → is_queued m.number self.new.places ≡ true }
+        ensures kept { m.shard ≡ self.old.index → is_schedule m.body ≡ true → was_taken result ≡ false → self.new ≡ with_pass self.old self.new.pass }
+        ensures passed { m.shard ≡ self.old.index → is_quick m.body ≡ true → was_passed result ≡ true → self.new ≡ with_pass self.old self.new.pass }
         // A Schedule and a Quick are refused by what ran, exactly.
         ensures ran { m.shard ≡ self.old.index → is_schedule m.body ≡ true → m.number ≤ self.old.ran → limit_scheduled result ≡ Some self.old.ran }
         ensures ran_quick { m.shard ≡ self.old.index → is_quick m.body ≡ true → m.number ≤ self.old.ran → limit_answered result ≡ Some self.old.ran }
         // Or by the greatest that waits, where their keys are held and they would go in front of it.
         ensures late { m.shard ≡ self.old.index → (keys : Keys) → keys_said m.body ≡ Some keys → ComesLate self.old m.number keys → limit_scheduled result ≡ Some (tail_of self.old.places) }
+        ensures late_quick { m.shard ≡ self.old.index → (call : Call) → call_said m.body ≡ Some call → IsBehind self.old m.number call → (limit_answered result ≡ Some (tail_of self.old.places)) ⊎ ((only_key call ≡ None) × (is_unheard result ≡ true)) }
         ensures tail { m.shard ≡ self.old.index → is_schedule m.body ≡ true → self.old.ran < m.number → (l : ℕ) → limit_scheduled result ≡ Some l → (l ≡ tail_of self.old.places) × ((keys : Keys) → keys_said m.body ≡ Some keys → ComesLate self.old m.number keys) }
         ensures tail_quick { m.shard ≡ self.old.index → is_quick m.body ≡ true → self.old.ran < m.number → (l : ℕ) → limit_answered result ≡ Some l → (l ≡ tail_of self.old.places) × ((call : Call) → call_said m.body ≡ Some call → IsBehind self.old m.number call) }
     {
