@@ -1,0 +1,4 @@
+pub mod Fits
+pub mod Postings
+pub mod Ways
+pub mod Locals
