@@ -1,0 +1,4 @@
+pub mod Rows
+pub mod Asking
+pub mod Hearing
+pub mod OneHops
