@@ -17,11 +17,11 @@ use crate::rule::{
     CutCaller, CutRunning, CutTicket, DrawNumber, Learn, Merge, NoteCut, NoteSaid, Ruling, Sizes,
 };
 use crate::view::{Said, View};
+use crate::witness::Witness;
 use atomic_table::{Table, TableRule};
 use df_model::Call;
 use std::alloc::Global;
 use std::marker::Model;
-use std::snapshot::Snapshot;
 
 /// The book, which threads share by reference. Contracts see which book it is.
 #[derive(Drop)]
@@ -79,7 +79,7 @@ impl BookOf<Said, Ruling> {
         ensures drawn { pass.new ≡ after_draw pass.old call.now result }
     {
         let shared = &self.table.shared;
-        let said = Said::Call(Snapshot::of(call));
+        let said = Said::Call(Witness::of(call));
         shared.compare_exchange_with::<NoteSaid>(&mut pass.seat, 0, 0, 0, &said);
         pass.budget -= 1;
         shared.fetch_add::<DrawNumber>(&mut pass.seat, 0, 1)

@@ -12,8 +12,10 @@ mod passes;
 mod rule;
 mod shards;
 mod view;
+mod witness;
 
 pub use book::Book;
 pub use closing::Closed;
 pub use draw::Draw;
 pub use passes::{CallerPass, Receipt, ShardPass, Ticket};
+pub use witness::Witness;

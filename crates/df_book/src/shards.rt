@@ -8,8 +8,8 @@ use crate::book::BookOf;
 use crate::passes::{Receipt, ReceiptOf, ShardPass, Ticket, TicketOf};
 use crate::rule::{CutReceipt, EnterEntry, Learn, Merge, NoteSaid, Ruling};
 use crate::view::Said;
+use crate::witness::Witness;
 use df_log::Entry;
-use std::snapshot::Snapshot;
 
 impl BookOf<Said, Ruling> {
     /// The shard then knows what the ticket's caller had drawn and seen, and counts a running ticket for its number.
@@ -37,7 +37,7 @@ impl BookOf<Said, Ruling> {
         ensures receipt { result ≡ receipt_of pass.new }
     {
         let shared = &self.table.shared;
-        let said = Said::Entry(Snapshot::of(&entry));
+        let said = Said::Entry(Witness::of(&entry));
         shared.compare_exchange_with::<NoteSaid>(&mut pass.seat, 0, 0, 0, &said);
         shared.fetch_add::<EnterEntry>(&mut pass.seat, pass.shard as usize + 1, 1);
         self.show(pass)

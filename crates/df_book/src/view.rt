@@ -1,15 +1,15 @@
 //! What a seat of the book's table knows.
 use crate::draw::Draw;
+use crate::witness::Witness;
 use df_log::Entry;
 use df_model::Call;
 use std::collections::LinkedList;
-use std::snapshot::Snapshot;
 
 /// What a step announces, for the proof alone. It has no bytes but its tag.
 #[derive(Drop)]
 pub enum Said {
-    Call(Snapshot<Call>),
-    Entry(Snapshot<Entry>),
+    Call(Witness<Call>),
+    Entry(Witness<Entry>),
 }
 
 /// What a seat is about to do. A step can be told a number or what it announces, so these are noted one step before.

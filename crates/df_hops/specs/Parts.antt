@@ -21,9 +21,9 @@ shards_in book = book.words - 2
 
 -- what a part does, as it stands in a log
 abbrev pub act_of : Part → Act
-act_of (Run command) = acts.Run command
-act_of (Read keys) = acts.Read keys.items
-act_of (Stage changes) = acts.Stage (map (λ c. (c.0, option_map seen c.1)) changes.items)
+act_of (Run command) = acts.Run command.value
+act_of (Read keys) = acts.Read keys.value.items
+act_of (Stage changes) = acts.Stage (map (λ c. (c.0, option_map seen c.1)) changes.value.items)
 act_of Apply = acts.Apply
 act_of Unstage = acts.Unstage
 act_of Begin = acts.Begin

@@ -94,7 +94,7 @@ keys_due DropCut s n t = None
 abbrev pub act_said : Body → Option Act
 act_said (Schedule keys) = None
 act_said (Quick hop hash slip) = Some (acts.Run (command_at (commands_of slip.value.call) (hop / 4)))
-act_said (Hop hop part) = Some (act_of part.value)
+act_said (Hop hop part) = Some (act_of part)
 act_said Cancel = None
 act_said Conclude = None
 act_said (Pull hop) = None

@@ -8,12 +8,11 @@ ghost use Rattle.df_model.specs.Keyspace.{coded_keyspace};
 ghost use Rattle.df_hops.specs.Shown.{act_asked, act_shown, call_back, call_drawn, draws_needed, draws_shown, has_note, limit_said, shard_shown, told_said, told_shown};
 ghost use Rattle.df_hops.specs.Came.{IsDue, came_due, came_shown, may_want_it, outcome_said, outcome_shown};
 
-use df_book::Receipt;
+use df_book::{Receipt, Witness};
 use df_caller::Slip;
 use df_model::{Bins, Reserved};
 use df_table::Table;
 use df_values::{Pieces, Value};
-use std::snapshot::Snapshot;
 
 /// What some keys hold, in the order of the keys.
 pub type Values = Reserved<Option<Value>>;
@@ -59,7 +58,7 @@ pub enum AnswerBody {
     Ran {
         slip: Box<Slip>,
         receipt: Receipt,
-        keys: Snapshot<Table>,
+        keys: Witness<Table>,
     },
     /// Of a Quick that found no memory where it ran: it changed nothing.
     Wanted {
@@ -70,7 +69,7 @@ pub enum AnswerBody {
     Did {
         outcome: Outcome,
         receipt: Receipt,
-        keys: Snapshot<Table>,
+        keys: Witness<Table>,
     },
     /// Of a Cancel, a Conclude, a DropCut, and of a message that doesn't fit.
     Freed,

@@ -86,12 +86,12 @@ pub fn hop(
     conn: u32,
     number: u64,
     hop: u32,
-    part: Box<Part>,
+    part: Part,
 ) -> Message
     requires book { pass.old.book ≡ book.now }
     requires drawn { (0 < length pass.old.own) × (0 < draws_of number pass.old.own) }
     requires last { last_number pass.old.own ≡ number }
-    requires due { Some (act_of part.value) ≡ due (shards_in book.now) (call_at pass.old.own number) (λ i. steps_of (entries_in (shards_in book.now) pass.old.seen number i)) shard hop }
+    requires due { Some (act_of part) ≡ due (shards_in book.now) (call_at pass.old.own number) (λ i. steps_of (entries_in (shards_in book.now) pass.old.seen number i)) shard hop }
     ensures pass { pass.new ≡ after_running pass.old }
     ensures message { (result.shard ≡ shard) × (result.conn ≡ conn) × (result.number ≡ number) }
     ensures body { result.body ≡ bodies.Hop hop part }

@@ -6,6 +6,7 @@
 
 mod answer;
 mod asking;
+mod crossing;
 mod message;
 mod sizes;
 

@@ -20,11 +20,11 @@ pub type Changes = Reserved<(Bin, Option<Value>)>;
 #[derive(Drop)]
 pub enum Part {
     /// Runs a command whose keys all stand on the shard.
-    Run(Command),
+    Run(Box<Command>),
     /// Reads these keys.
-    Read(Bins),
+    Read(Box<Bins>),
     /// Takes the memory for these changes, and shows none of them.
-    Stage(Changes),
+    Stage(Box<Changes>),
     /// Shows what was staged. Takes no memory.
     Apply,
     /// Drops what was staged. Takes no memory.
@@ -47,7 +47,7 @@ pub enum Body {
     /// To do all of a call that has one hop on one shard: the hop, the key's hash, and the slip with the call.
     Quick(u32, u64, Box<Slip>),
     /// To do this hop of a call that waits there.
-    Hop(u32, Box<Part>),
+    Hop(u32, Part),
     /// To let go of a call that ran nothing.
     Cancel,
     /// To let go of a call that is done.

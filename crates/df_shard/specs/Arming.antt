@@ -29,7 +29,7 @@ armed_by x n hop act = arm_at x (wait_at n x.waiting) hop act
 abbrev pub after_hop : View → ℕ → Body → View
 after_hop x n (Schedule keys) = x
 after_hop x n (Quick hop hash slip) = x
-after_hop x n (Hop hop part) = armed_by x n hop (act_of part.value)
+after_hop x n (Hop hop part) = armed_by x n hop (act_of part)
 after_hop x n Cancel = x
 after_hop x n Conclude = x
 after_hop x n (Pull hop) = x

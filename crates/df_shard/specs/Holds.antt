@@ -60,7 +60,7 @@ pub record Wait : Type 0 where
 abbrev pub hopping : Armed → Option Hopping
 hopping Nothing = None
 hopping (Quick hop slip) = Some record { hop = hop; act = call_act slip.value.call hop; call = Some slip.value.call }
-hopping (Hop hop part) = Some record { hop = hop; act = act_of part.value; call = None }
+hopping (Hop hop part) = Some record { hop = hop; act = act_of part; call = None }
 
 -- changes as they stand in a log
 abbrev pub changes_seen : List (Bytes × Option values.Value) → Changes

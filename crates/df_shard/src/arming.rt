@@ -35,9 +35,9 @@ impl Shard {
         self.arm(number, hop, part);
     }
 
-    fn arm(&mut self, number: u64, hop: u32, part: Box<Part>)
-        requires comes { Comes self.old number hop (act_of part.value) }
-        ensures { self.new ≡ armed_by self.old number hop (act_of part.value) }
+    fn arm(&mut self, number: u64, hop: u32, part: Part)
+        requires comes { Comes self.old number hop (act_of part) }
+        ensures { self.new ≡ armed_by self.old number hop (act_of part) }
     {
         let Some(at) = find(&self.waiting, number) else {
             return;
@@ -46,8 +46,8 @@ impl Shard {
     }
 }
 
-fn arm_in(call: &mut Waiting, hop: u32, part: Box<Part>)
-    ensures { wait_of call.new ≡ arm (wait_of call.old) hop (act_of part.value) }
+fn arm_in(call: &mut Waiting, hop: u32, part: Part)
+    ensures { wait_of call.new ≡ arm (wait_of call.old) hop (act_of part) }
 {
     match call.armed {
         Armed::Nothing => {

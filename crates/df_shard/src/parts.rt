@@ -37,7 +37,7 @@ pub(crate) fn do_part(
     ensures { DidPart shards index (act_of part) table.old.keys (changes_seen staged.old.items) table.old.kept table.new.keys (changes_seen staged.new.items) table.new.kept result }
 {
     match part {
-        Part::Run(command) => match run(alloc, table, command) {
+        Part::Run(command) => match run(alloc, table, Box::into_inner(command)) {
             Ok(reply) => Outcome::Ran(reply),
             Err(_) => Outcome::NoMemory,
         },
@@ -45,7 +45,7 @@ pub(crate) fn do_part(
             Ok(values) => Outcome::Values(values),
             Err(_) => Outcome::NoMemory,
         },
-        Part::Stage(changes) => match stage(table, changes, staged) {
+        Part::Stage(changes) => match stage(table, Box::into_inner(changes), staged) {
             Ok(()) => Outcome::Staged,
             Err(_) => Outcome::NoMemory,
         },

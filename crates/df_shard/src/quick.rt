@@ -18,11 +18,10 @@ use crate::queueing::queue_up;
 use crate::running::{ran_body, run_call};
 use crate::shard::Shard;
 use crate::waiting::{Armed, Waiting};
-use df_book::Book;
+use df_book::{Book, Witness};
 use df_caller::Slip;
 use df_hops::{Answer, AnswerBody, Message, Why};
 use df_model::{Keys, Reserved};
-use std::snapshot::Snapshot;
 
 impl Shard {
     /// A Quick: it runs at once, is passed, or waits and is answered later.
@@ -69,7 +68,7 @@ impl Shard {
             slip,
         } = asked;
         let mut slip = slip;
-        let keys = Snapshot::of(&self.table);
+        let keys = Witness::of(&self.table);
         let (entry, is_said) = run_call(self.alloc, &mut self.table, number, hop, &mut slip);
         self.ran = number;
         let receipt = book.enter(&mut self.pass, entry);

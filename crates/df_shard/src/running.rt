@@ -11,7 +11,7 @@ ghost use Rattle.df_shard.specs.Came.{RanTo};
 ghost use Rattle.df_shard.specs.Holds.{call_command};
 
 use crate::entries::{ran, wanted};
-use df_book::Receipt;
+use df_book::{Receipt, Witness};
 use df_caller::Slip;
 use df_hops::AnswerBody;
 use df_log::Entry;
@@ -63,7 +63,7 @@ pub(crate) fn ran_body(
     is_said: bool,
     slip: Box<Slip>,
     receipt: Receipt,
-    keys: Snapshot<Table>,
+    keys: Witness<Table>,
 ) -> AnswerBody
     ensures { result ≡ (if is_said then answers.Ran slip receipt keys else answers.Wanted slip receipt) }
 {

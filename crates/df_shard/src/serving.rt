@@ -20,7 +20,7 @@ use crate::parts::do_part;
 use crate::running::{ran_body, run_call};
 use crate::shard::Shard;
 use crate::waiting::{Armed, Waiting};
-use df_book::{Book, Receipt};
+use df_book::{Book, Receipt, Witness};
 use df_caller::Slip;
 use df_hops::{Answer, AnswerBody, Outcome, Part};
 use df_log::Entry;
@@ -63,7 +63,7 @@ impl Shard {
         let Some(at) = ready(&self.queue, &self.waiting) else {
             return None;
         };
-        let keys = Snapshot::of(&self.table);
+        let keys = Witness::of(&self.table);
         let call = &mut self.waiting[at];
         let number = call.number;
         let conn = call.conn;
@@ -164,17 +164,7 @@ fn serve(alloc: Global, shards: u32, index: u32, table: &mut Table, call: &mut W
     match mem::replace(&mut call.armed, Armed::Nothing) {
         Armed::Nothing => unreachable!(),
         Armed::Quick(hop, slip) => serve_quick(alloc, shards, index, table, call, hop, slip),
-        Armed::Hop(hop, part) => {
-            serve_part(
-                alloc,
-                shards,
-                index,
-                table,
-                call,
-                hop,
-                Box::into_inner(part),
-            )
-        }
+        Armed::Hop(hop, part) => serve_part(alloc, shards, index, table, call, hop, part),
     }
 }
 

@@ -13,7 +13,7 @@ pub enum Armed {
     Nothing,
     /// The hop of a Quick, and its slip.
     Quick(u32, Box<Slip>),
-    Hop(u32, Box<Part>),
+    Hop(u32, Part),
 }
 
 /// A call in the queue.

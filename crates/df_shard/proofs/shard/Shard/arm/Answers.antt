@@ -14,7 +14,7 @@ use Rattle.df_shard.proofs.shard.Shard.arm.Goals as goal
 pub invariant_of-self : goal.invariant_of-self
 invariant_of-self c =
     let x : View = view_of c.self.inside in let items = c.self.inside.waiting.items in let w0 = c.index_mut.result.now in
-    let w : Wait = wait_of w0 in let hop : ℕ = c.args.hop in let act : Act = act_of c.args.part.value in
+    let w : Wait = wait_of w0 in let hop : ℕ = c.args.hop in let act : Act = act_of c.args.part in
     let here : wait_at w.number x.waiting ≡ Some w = at-index items c.in-Some.at w0 c.self.invariant.once c.in-Some.ensures.within c.index_mut.ensures.value in
     let found : wait_at c.args.number x.waiting ≡ Some w =
     subst (λ v. wait_at c.args.number x.waiting ≡ Some (wait_of v)) (sym c.index_mut.ensures.value) (c.in-Some.ensures.some w0) in
@@ -26,7 +26,7 @@ invariant_of-self c =
 pub returns : goal.returns
 returns c =
     let x : View = view_of c.self.inside in let items = c.self.inside.waiting.items in let w0 = c.index_mut.result.now in
-    let w : Wait = wait_of w0 in let hop : ℕ = c.args.hop in let act : Act = act_of c.args.part.value in
+    let w : Wait = wait_of w0 in let hop : ℕ = c.args.hop in let act : Act = act_of c.args.part in
     let found : wait_at c.args.number x.waiting ≡ Some w =
     subst (λ v. wait_at c.args.number x.waiting ≡ Some (wait_of v)) (sym c.index_mut.ensures.value) (c.in-Some.ensures.some w0) in
     ap (λ (ws : List Wait). record x { waiting = ws }) (set-with items c.in-Some.at w0 c.arm_in.new.call c.self.invariant.once c.in-Some.ensures.within c.index_mut.ensures.value ∙ ap (λ v. with_wait w.number v x.waiting) c.arm_in.ensures)
