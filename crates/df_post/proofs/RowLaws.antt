@@ -1,11 +1,12 @@
 -- The ways to the shards, in order, and what changes at one of them.
 use Rattle.std.proofs.Common.{◌≡◌, ℕ, zero, suc, ◌+◌, ◌-◌, ◌<◌, length, true, is_some, List, [], ◌∷◌, refl, sym, ap, ◌∙◌, arith}
-use Rattle.std.specs.Prelude.{Option, None, map, get_or, slice_index_or, slice_set, Result, OnOk, IfSome}
+use Rattle.std.specs.Prelude.{Option, None, map, get_or, slice_index_or, slice_set, Result, OnErr, OnOk, IfSome}
 use Rattle.std.proofs.lemmas.Bool.{false≢true}
 use Rattle.df_book.specs.Passes.{BookName}
 use Rattle.df_post.specs.declared.awaited.Awaited.{Awaited}
 use Rattle.df_post.specs.Ways.{WayView}
-use Rattle.df_post.specs.Locals.{Rows, bare_way, bare_ways}
+use Rattle.df_post.specs.Postings.{Posting}
+use Rattle.df_post.specs.Locals.{LocalView, Rows, bare_way, bare_ways, posting_of}
 
 abbrev awaiting : WayView → Option Awaited
 awaiting w = w.awaits
@@ -58,6 +59,13 @@ awaits-stay [] k w new is same = refl
 awaits-stay (v ∷ ws) zero w new is same = ap (λ a. a ∷ map awaiting ws) (same ∙ ap awaiting is)
 awaits-stay (v ∷ ws) (suc k) w new is same = ap (λ l. v.awaits ∷ l) (awaits-stay ws k w new is same)
 
+abbrev with_awaits : LocalView → List (Option Awaited) → Posting
+with_awaits p l = record { book = p.book; awaits = l; stalls = p.stalls }
+
+pub posting-stays : (p : LocalView) (k : ℕ) (w new : WayView) → w ≡ slice_index_or p.ways k w → new.awaits ≡ w.awaits →
+    posting_of (record p { ways = slice_set p.ways k new }) ≡ posting_of p
+posting-stays p k w new is same = ap (with_awaits p) (awaits-stay p.ways k w new is same)
+
 -- ---- what is said of an answer that came
 
 pub if-some : {A : Type 0} (o : Option A) (P Q : A → Type 0) → ((x : A) → P x → Q x) → IfSome o P → IfSome o Q
@@ -67,3 +75,7 @@ if-some (Option.Some x) P Q f h = f x h
 pub on-ok : {A B : Type 0} (r : Result A B) (P Q : Type 0) → (P → Q) → OnOk r P → OnOk r Q
 on-ok (Result.Ok x) P Q f h = f h
 on-ok (Result.Err x) P Q f h = tt
+
+pub either-way : {A B : Type 0} (r : Result A B) (P Q R : Type 0) → (P → R) → (Q → R) → OnOk r P → OnErr r Q → R
+either-way (Result.Ok x) P Q R f g h k = f h
+either-way (Result.Err x) P Q R f g h k = g k

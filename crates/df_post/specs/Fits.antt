@@ -32,7 +32,7 @@ part_kind parts.Clear = part_kinds.Do
 abbrev pub kind_of : Body → Kind
 kind_of (bodies.Schedule keys) = kinds.Place
 kind_of (bodies.Quick hop hash slip) = kinds.Quick
-kind_of (bodies.Hop hop part) = kinds.Hop (part_kind part.value)
+kind_of (bodies.Hop hop part) = kinds.Hop (part_kind part)
 kind_of bodies.Cancel = kinds.Free
 kind_of bodies.Conclude = kinds.Free
 kind_of (bodies.Pull hop) = kinds.Pull

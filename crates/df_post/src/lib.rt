@@ -8,8 +8,11 @@ mod awaited;
 mod bodies;
 mod local;
 mod post;
+mod round;
+mod slot;
 mod way;
 
 pub use awaited::{Awaited, Kind, PartKind};
 pub use local::LocalPost;
 pub use post::Post;
+pub use round::Round;

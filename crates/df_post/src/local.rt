@@ -58,6 +58,7 @@ impl LocalPost {
         ensures none { IfNone result ((way_at shard self.old).sent ≡ false) }
         ensures changed { ChangedAt shard self.old self.new × (self.new.stalls ≡ self.old.stalls) }
         ensures after { way_at shard self.new ≡ record (way_at shard self.old) { sent = false } }
+        ensures posting { posting_of self.new ≡ posting_of self.old }
     {
         self.ways[shard as usize].message()
     }
@@ -70,6 +71,7 @@ impl LocalPost {
         ensures full { OnErr result ((is_some (way_at shard self.old).lies ≡ true) × (way_at shard self.new ≡ way_at shard self.old)) }
         ensures back { IfErr result (λ given. given ≡ answer) }
         ensures changed { ChangedAt shard self.old self.new × (self.new.stalls ≡ self.old.stalls) }
+        ensures posting { posting_of self.new ≡ posting_of self.old }
     {
         self.ways[shard as usize].answer(answer)
     }

@@ -158,7 +158,8 @@ answers_are_new shards n v es call progress s act told e pos hopped st asked may
         (sym (lt-ltb s shards (due_within shards call (λ t. steps_of (es t)) s (hop_next shards progress) act is-due))) among)
         number
 
-asks-beyond : (shards : ℕ) (left : List Command) (standing : Standing) (s : ℕ) → shards ≤ s → asks_in shards left standing s ≡ None
+-- nothing is asked of a shard that there isn't
+pub asks-beyond : (shards : ℕ) (left : List Command) (standing : Standing) (s : ℕ) → shards ≤ s → asks_in shards left standing s ≡ None
 asks-beyond shards [] standing s le = refl
 asks-beyond shards (command ∷ commands) Fresh s le = on-out shards (first_asked shards command (course_of shards command)) s le
 asks-beyond shards (command ∷ commands) (Once a) s le = on-out shards (second_asked shards command (course_of shards command) a) s le

@@ -1,10 +1,10 @@
 use Rattle.std.proofs.Common.{◌≡◌, ◌∙◌, ◌<◌, length, ap, sym, subst}
-use Rattle.std.specs.Prelude.{Some, None, get_or, set, OnOk}
+use Rattle.std.specs.Prelude.{true, is_some, Some, None, get_or, set, OnOk}
 use Rattle.std.proofs.lemmas.List.{get_or_default, get_or-set_same}
 use Rattle.df_hops.specs.Shown.{book_shown}
 use Rattle.df_post.specs.Ways.{WayView, fits_there}
-use Rattle.df_post.specs.Locals.{LocalView, bare_way, way_at}
-use Rattle.df_post.proofs.RowLaws.{on-ok, rows-go, way-mine}
+use Rattle.df_post.specs.Locals.{LocalView, bare_way, local_of, posting_of, way_at}
+use Rattle.df_post.proofs.RowLaws.{either-way, on-ok, posting-stays, rows-go, way-mine}
 use Rattle.df_post.proofs.local.LocalPost.answer.Goals as goal
 
 pub answer-requires : goal.answer-requires
@@ -34,3 +34,15 @@ returns-clause-put c =
       is ∙ h.1 ∙ ap (λ i. record w { lies = Some (fits_there w.awaits i a) }) mine.1 ∙ ap (λ (v : WayView). record v { lies = Some (fits_there v.awaits s a) }) (sym was),
     ))
     c.answer.ensures.put)
+
+pub returns-clause-posting : goal.returns-clause-posting
+returns-clause-posting c =
+    let p : LocalView = local_of c.self.inside in let s = c.args.shard in let a = c.args.answer in
+    let w : WayView = c.index_mut.result.now in let new : WayView = c.answer.new.self in
+    let same : new.awaits ≡ w.awaits =
+    either-way c.answer.result _ _ (new.awaits ≡ w.awaits)
+    (λ (h : (w.lies ≡ None) × (new ≡ record w { lies = Some (fits_there w.awaits w.shard a) })). ap (λ (v : WayView). v.awaits) h.1)
+    (λ (h : (is_some w.lies ≡ true) × (new ≡ w)). ap (λ (v : WayView). v.awaits) h.1)
+    c.answer.ensures.put c.answer.ensures.full in
+    subst (λ (x : LocalView). posting_of (record p { ways = set p.ways s new }) ≡ posting_of x) c.self.view_is
+    (posting-stays p s w new c.index_mut.ensures.value same)
