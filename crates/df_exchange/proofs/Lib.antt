@@ -1,0 +1,4 @@
+pub mod ActLaws
+pub mod FoundLaws
+pub mod AskLaws
+pub mod HearLaws

@@ -1,0 +1,4 @@
+pub mod PointLaws
+pub mod GatherLaws
+pub mod WrittenLaws
+pub mod RunLaws

@@ -1,0 +1,4 @@
+pub mod Spread
+pub mod Gathered
+pub mod Written
+pub mod Pairs

@@ -1,0 +1,5 @@
+pub mod Courses
+pub mod Heard
+pub mod Asked
+pub mod Turns
+pub mod Steps
