@@ -1,4 +1,4 @@
-pub mod KeyLaws
+pub mod AloneLaws
 pub mod RunLaws
 pub mod FoundLaws
 pub mod HeardLaws

@@ -1,4 +1,4 @@
--- A step of what runs calls of one key.
+-- A step of what runs calls of one hop.
 use Rattle.std.proofs.Common.{◌≡◌, ◌≢◌, ℕ, zero, suc, true, is_some, ◌&&◌, List, [], ◌∷◌, ◌++◌, refl, sym, ap, ◌∙◌, subst, append-nil}
 use Rattle.std.specs.Prelude.{Option, Some, None, ◌==◌, get_or, set}
 use Rattle.std.proofs.lemmas.Bool.{false≢true, and_parts, eqb-true}
@@ -78,9 +78,9 @@ passed-again shards before drawer w call n p went = record {
 
 pub idle-so : (state : State) (x : Seen) → under state ≡ None → StandsAs state x → IsIdle x.posting
 idle-so states.Idle x none stands = stands
-idle-so (states.Due slip) x none stands = absurd (false≢true (sym (ap is_some none)))
-idle-so (states.Unsent m call) x none stands = absurd (false≢true (sym (ap is_some none)))
-idle-so (states.Sent n s call) x none stands = absurd (false≢true (sym (ap is_some none)))
+idle-so (states.Due slip s hash) x none stands = absurd (false≢true (sym (ap is_some none)))
+idle-so (states.Unsent m hash call) x none stands = absurd (false≢true (sym (ap is_some none)))
+idle-so (states.Sent n s hash call) x none stands = absurd (false≢true (sym (ap is_some none)))
 
 none-set : (l : List (Option Awaited)) (s : ℕ) → get_or (set l s None) s None ≡ None
 none-set [] s = refl

@@ -1,9 +1,9 @@
--- How a call of one key is asked for.
-use Rattle.std.specs.Prelude.{◌≡◌, ℕ, ◌<◌, Option, Some, None}
-use Rattle.df_model.specs.Values.{Bytes}
-use Rattle.df_model.specs.Hash.{shard_of}
+-- How a call of one hop is asked for.
+use Rattle.std.specs.Prelude.{◌≡◌, ℕ, ◌<◌}
+use Rattle.df_model.specs.declared.command.Command.{Command}
 use Rattle.df_model.specs.declared.command.Call.{Call}
-use Rattle.df_footprints.specs.Footprints.{only_key}
+use Rattle.df_model.specs.declared.command.Call.TheVariants.{Single}
+use Rattle.df_core.specs.Courses.{Alone, course_of}
 use Rattle.df_book.specs.Weights.{Each, count}
 use Rattle.df_book.specs.Logs.{AllBelow}
 use Rattle.df_book.specs.Draws.{Bounded}
@@ -12,14 +12,12 @@ use Rattle.df_book.specs.declared.draw.Draw.{Draw}
 use Rattle.df_post.specs.declared.awaited.Awaited.{Awaited}
 use Rattle.df_post.specs.declared.awaited.Kind.TheVariants as kinds
 
--- the shard of a key, or shard 0 where there is none
-abbrev pub shard_of_key : ℕ → Option Bytes → ℕ
-shard_of_key shards None = 0
-shard_of_key shards (Some key) = shard_of key shards
-
--- where a call of one key runs
-abbrev pub shard_for : ℕ → Call → ℕ
-shard_for shards call = shard_of_key shards (only_key call)
+-- the call is a single command that runs on this shard alone
+pub record RunsAlone (shards s : ℕ) (call : Call) : Type 0 where
+  pub command : Command
+  pub is : call ≡ Single command
+  pub alone : course_of shards command ≡ Alone s
+  pub there : s < shards
 
 -- what awaits its answer there: all of the call is its first hop
 abbrev pub awaited_for : ℕ → Awaited

@@ -1,4 +1,4 @@
--- What came of a call of one key whose answer was heard.
+-- What came of a call of one hop whose answer was heard.
 use Rattle.std.specs.Prelude.{◌≡◌, ℕ, Some, None, [], ◌∷◌}
 use Rattle.df_model.specs.Replies.{encoding_of}
 use Rattle.df_model.specs.declared.command.Call.{Call}

@@ -1,9 +1,8 @@
--- What runs a connection's calls of one key, between its steps.
-use Rattle.std.specs.Prelude.{◌≡◌, ◌≢◌, ℕ, ◌+◌, ◌<◌, true, is_some, Option, Some, None}
+-- What runs a connection's calls of one hop, between its steps.
+use Rattle.std.specs.Prelude.{◌≡◌, ◌≢◌, ℕ, ◌+◌, ◌<◌, Option, Some, None}
 use Rattle.df_model.specs.Replies.{encoding_of}
 use Rattle.df_model.specs.declared.command.Call.{Call}
 use Rattle.df_model.specs.declared.reply.Reply.{Reply}
-use Rattle.df_footprints.specs.Footprints.{only_key}
 use Rattle.df_core.specs.Done.{want_of_memory}
 use Rattle.df_book.specs.Draws.{Bounded}
 use Rattle.df_book.specs.Passes.{BookName, Caller}
@@ -12,7 +11,8 @@ use Rattle.df_caller.specs.declared.caller.Went.TheVariants as went
 use Rattle.df_post.specs.Fits.{awaited_by}
 use Rattle.df_post.specs.Postings.{Posting, IsIdle, awaits_at, shards_of}
 use Rattle.df_post.specs.declared.awaited.Awaited.{Awaited}
-use Rattle.df_coord.specs.Asking.{Asked, awaited_for, shard_for}
+use Rattle.df_hops.specs.Parts.{hash_for}
+use Rattle.df_coord.specs.Asking.{Asked, RunsAlone, awaited_for}
 use Rattle.df_coord.specs.Rows.{CallPassed, CallRan}
 use Rattle.df_coord.specs.declared.state.State.{State}
 use Rattle.df_coord.specs.declared.state.State.TheVariants as states
@@ -35,19 +35,16 @@ see book shards before pass state posting =
 -- the call under way
 abbrev pub under : State → Option Call
 under states.Idle = None
-under (states.Due slip) = Some slip.value.call
-under (states.Unsent m call) = Some call.value
-under (states.Sent n s call) = Some call.value
+under (states.Due slip s hash) = Some slip.value.call
+under (states.Unsent m hash call) = Some call.value
+under (states.Sent n s hash call) = Some call.value
 
 -- ---- what holds between two steps
 
--- the call is of one key
-abbrev pub HasOneKey : Call → Type 0
-HasOneKey call = is_some (only_key call) ≡ true
-
 -- it was drawn, and each time before that it ran nothing
-pub record Drawn (shards : ℕ) (before u : Caller) (call : Call) (n : ℕ) : Type 0 where
-  pub key : HasOneKey call
+pub record Drawn (shards s hash : ℕ) (before u : Caller) (call : Call) (n : ℕ) : Type 0 where
+  pub runs : RunsAlone shards s call
+  pub hashed : hash ≡ hash_for hash call
   pub drawer : Caller
   pub passed : CallPassed shards before drawer call
   pub asked : Asked drawer u call n
@@ -58,13 +55,14 @@ AwaitsAlone s a p = (awaits_at s p ≡ Some a) × ((t : ℕ) → t ≢ s → awa
 
 abbrev pub StandsAs : State → Seen → Type 0
 StandsAs states.Idle x = IsIdle x.posting
-StandsAs (states.Due slip) x =
-    IsIdle x.posting × HasOneKey slip.value.call × CallPassed x.shards x.before x.pass slip.value.call
-StandsAs (states.Unsent m call) x =
-    IsIdle x.posting × Drawn x.shards x.before x.pass call.value m.number × (m.shard ≡ shard_for x.shards call.value)
+StandsAs (states.Due slip s hash) x =
+    IsIdle x.posting × RunsAlone x.shards s slip.value.call × (hash ≡ hash_for hash slip.value.call)
+    × CallPassed x.shards x.before x.pass slip.value.call
+StandsAs (states.Unsent m hash call) x =
+    IsIdle x.posting × Drawn x.shards m.shard hash x.before x.pass call.value m.number
     × (awaited_by m ≡ awaited_for m.number) × (m.ticket.book ≡ x.book)
-StandsAs (states.Sent n s call) x =
-    AwaitsAlone s (awaited_for n) x.posting × Drawn x.shards x.before x.pass call.value n × (s ≡ shard_for x.shards call.value)
+StandsAs (states.Sent n s hash call) x =
+    AwaitsAlone s (awaited_for n) x.posting × Drawn x.shards s hash x.before x.pass call.value n
 
 pub record Going (x : Seen) : Type 0 where
   pub some : 0 < x.shards

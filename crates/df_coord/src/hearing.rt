@@ -1,13 +1,12 @@
-//! How the answer of a call of one key is heard.
+//! How the answer of a call of one hop is heard.
 
 ghost use Rattle.std.specs.Prelude.{◌≡◌, ◌+◌, ◌<◌, true};
 ghost use Rattle.df_model.specs.declared.command.Call.{Call};
 ghost use Rattle.df_book.specs.Passes.{Caller};
 ghost use Rattle.df_hops.specs.Shown.{book_shown};
 ghost use Rattle.df_post.specs.Fits.{fits};
-ghost use Rattle.df_coord.specs.Asking.{Asked, awaited_for, shard_for};
+ghost use Rattle.df_coord.specs.Asking.{Asked, RunsAlone, awaited_for};
 ghost use Rattle.df_coord.specs.Hearing.{HasHeard};
-ghost use Rattle.df_coord.specs.OneHops.{HasOneKey};
 
 use df_book::{Book, CallerPass};
 use df_caller::Slip;
@@ -31,7 +30,7 @@ pub(crate) fn hear(book: &Book, pass: &mut CallerPass, shards: u32, answer: Answ
     requires some { 0 < shards }
     requires shown { book_shown book.now answer.body ≡ book.now }
     requires fits { fits (awaited_for answer.number) answer.shard answer ≡ true }
-    ensures heard { (v : Caller) (call : Call) → HasOneKey call → answer.shard ≡ shard_for shards call → Asked v pass.old call answer.number → HasHeard result shards v pass.new call answer.number }
+    ensures heard { (v : Caller) (call : Call) → RunsAlone shards answer.shard call → Asked v pass.old call answer.number → HasHeard result shards v pass.new call answer.number }
     ensures pass { (pass.new.book ≡ pass.old.book) × (pass.new.first ≡ pass.old.first) × (pass.new.budget ≡ pass.old.budget) }
 {
     let Answer { body, .. } = answer;

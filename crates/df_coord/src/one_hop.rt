@@ -1,4 +1,4 @@
-//! What runs a connection's calls of one key, one after the other.
+//! What runs a connection's calls of one hop, one after the other: single commands that run on one shard alone.
 //!
 //!     state     of the call under way
 //!     Idle      there is none
@@ -13,7 +13,9 @@ ghost use Rattle.df_book.specs.Draws.{Bounded};
 ghost use Rattle.df_caller.specs.Calling.{Rose};
 ghost use Rattle.df_caller.specs.declared.caller.Went.TheVariants as went;
 ghost use Rattle.df_post.specs.Postings.{IsIdle, shards_of};
-ghost use Rattle.df_coord.specs.OneHops.{Going, HasOneKey, Says, Stepped, see, under};
+ghost use Rattle.df_hops.specs.Parts.{hash_for};
+ghost use Rattle.df_coord.specs.Asking.{RunsAlone};
+ghost use Rattle.df_coord.specs.OneHops.{Going, Says, Stepped, see, under};
 ghost use Rattle.df_coord.specs.declared.state.State.TheVariants as states;
 
 use crate::asking::ask;
@@ -27,7 +29,7 @@ use df_post::Post;
 use std::mem;
 use std::snapshot::Snapshot;
 
-/// Runs calls of one key over shards. Between its steps `Going` holds of it (specs/OneHops).
+/// Runs calls of one hop over shards. Between its steps `Going` holds of it (specs/OneHops).
 #[derive(Drop)]
 pub struct OneHop<'a, P> {
     book: &'a Book,
@@ -70,18 +72,20 @@ impl<'a, P: Post> OneHop<'a, P> {
         }
     }
 
-    /// Begins the call of the slip. Takes no memory.
-    pub fn begin(&mut self, slip: Box<Slip>)
+    /// Begins the call of the slip, on the shard where it runs; with its key's hash, or any where it isn't a command of
+    /// one key. Takes no memory.
+    pub fn begin(&mut self, slip: Box<Slip>, shard: u32, hash: u64)
         requires going { Going (see self.old.book.now self.old.shards self.old.before.value self.old.pass self.old.state (P.posting self.old.post)) }
         requires idle { under self.old.state ≡ None }
-        requires key { HasOneKey slip.value.call }
+        requires runs { RunsAlone self.old.shards shard slip.value.call }
+        requires hash { hash ≡ hash_for hash slip.value.call }
         ensures going { Going (see self.new.book.now self.new.shards self.new.before.value self.new.pass self.new.state (P.posting self.new.post)) }
         ensures begun { under self.new.state ≡ Some slip.value.call }
         ensures before { self.new.before.value ≡ self.old.pass }
         ensures same { (self.new.pass ≡ self.old.pass) × (self.new.post ≡ self.old.post) × (self.new.shards ≡ self.old.shards) × (self.new.stalls ≡ self.old.stalls) }
     {
         self.before = Snapshot::of(&self.pass);
-        self.state = State::Due(slip);
+        self.state = State::Due(slip, shard, hash);
     }
 
     /// Goes on with the call under way: draws and sends, or hears its answer.
@@ -94,34 +98,42 @@ impl<'a, P: Post> OneHop<'a, P> {
     {
         match mem::replace(&mut self.state, State::Idle) {
             State::Idle => unreachable!(),
-            State::Due(slip) => self.start(slip),
-            State::Unsent(m, call) => self.send(m, call),
-            State::Sent(number, shard, call) => self.wait(number, shard, call),
+            State::Due(slip, shard, hash) => self.start(slip, shard, hash),
+            State::Unsent(m, hash, call) => self.send(m, hash, call),
+            State::Sent(number, shard, hash, call) => self.wait(number, shard, hash, call),
         }
     }
 
     /// Draws a number for the call, and sends it.
-    fn start(&mut self, slip: Box<Slip>) -> Went
-        requires going { Going (see self.old.book.now self.old.shards self.old.before.value self.old.pass (states.Due slip) (P.posting self.old.post)) }
+    fn start(&mut self, slip: Box<Slip>, shard: u32, hash: u64) -> Went
+        requires going { Going (see self.old.book.now self.old.shards self.old.before.value self.old.pass (states.Due slip shard hash) (P.posting self.old.post)) }
         requires taken { self.old.state ≡ states.Idle }
         ensures going { Going (see self.new.book.now self.new.shards self.new.before.value self.new.pass self.new.state (P.posting self.new.post)) }
-        ensures stepped { Stepped result (see self.old.book.now self.old.shards self.old.before.value self.old.pass (states.Due slip) (P.posting self.old.post)) (see self.new.book.now self.new.shards self.new.before.value self.new.pass self.new.state (P.posting self.new.post)) }
+        ensures stepped { Stepped result (see self.old.book.now self.old.shards self.old.before.value self.old.pass (states.Due slip shard hash) (P.posting self.old.post)) (see self.new.book.now self.new.shards self.new.before.value self.new.pass self.new.state (P.posting self.new.post)) }
         ensures waits { result ≡ went.Pending → Rose self.old.stalls self.new.stalls }
     {
         if self.book.left(&self.pass) == 0 {
             return Went::Spent(slip);
         }
         let call = Snapshot::of(&slip.call);
-        let m = ask(self.book, &mut self.pass, self.shards, self.conn, slip);
-        self.send(m, call)
+        let m = ask(
+            self.book,
+            &mut self.pass,
+            self.shards,
+            self.conn,
+            slip,
+            shard,
+            hash,
+        );
+        self.send(m, hash, call)
     }
 
     /// Sends the call's message.
-    fn send(&mut self, m: Message, call: Snapshot<Call>) -> Went
-        requires going { Going (see self.old.book.now self.old.shards self.old.before.value self.old.pass (states.Unsent m call) (P.posting self.old.post)) }
+    fn send(&mut self, m: Message, hash: u64, call: Snapshot<Call>) -> Went
+        requires going { Going (see self.old.book.now self.old.shards self.old.before.value self.old.pass (states.Unsent m hash call) (P.posting self.old.post)) }
         requires taken { self.old.state ≡ states.Idle }
         ensures going { Going (see self.new.book.now self.new.shards self.new.before.value self.new.pass self.new.state (P.posting self.new.post)) }
-        ensures stepped { Stepped result (see self.old.book.now self.old.shards self.old.before.value self.old.pass (states.Unsent m call) (P.posting self.old.post)) (see self.new.book.now self.new.shards self.new.before.value self.new.pass self.new.state (P.posting self.new.post)) }
+        ensures stepped { Stepped result (see self.old.book.now self.old.shards self.old.before.value self.old.pass (states.Unsent m hash call) (P.posting self.old.post)) (see self.new.book.now self.new.shards self.new.before.value self.new.pass self.new.state (P.posting self.new.post)) }
         ensures waits { (result ≡ went.Pending) × Rose self.old.stalls self.new.stalls }
         ensures before { (self.new.before.value ≡ self.old.before.value) × (self.new.book.now ≡ self.old.book.now) × (self.new.shards ≡ self.old.shards) }
     {
@@ -129,11 +141,11 @@ impl<'a, P: Post> OneHop<'a, P> {
         let shard = m.shard;
         match self.post.send(m) {
             Ok(()) => {
-                self.state = State::Sent(number, shard, call);
+                self.state = State::Sent(number, shard, hash, call);
                 self.pend()
             }
             Err(m) => {
-                self.state = State::Unsent(m, call);
+                self.state = State::Unsent(m, hash, call);
                 self.pend()
             }
         }
@@ -148,22 +160,22 @@ impl<'a, P: Post> OneHop<'a, P> {
     }
 
     /// Takes the call's answer, if it came.
-    fn wait(&mut self, number: u64, shard: u32, call: Snapshot<Call>) -> Went
-        requires going { Going (see self.old.book.now self.old.shards self.old.before.value self.old.pass (states.Sent number shard call) (P.posting self.old.post)) }
+    fn wait(&mut self, number: u64, shard: u32, hash: u64, call: Snapshot<Call>) -> Went
+        requires going { Going (see self.old.book.now self.old.shards self.old.before.value self.old.pass (states.Sent number shard hash call) (P.posting self.old.post)) }
         requires taken { self.old.state ≡ states.Idle }
         ensures going { Going (see self.new.book.now self.new.shards self.new.before.value self.new.pass self.new.state (P.posting self.new.post)) }
-        ensures stepped { Stepped result (see self.old.book.now self.old.shards self.old.before.value self.old.pass (states.Sent number shard call) (P.posting self.old.post)) (see self.new.book.now self.new.shards self.new.before.value self.new.pass self.new.state (P.posting self.new.post)) }
+        ensures stepped { Stepped result (see self.old.book.now self.old.shards self.old.before.value self.old.pass (states.Sent number shard hash call) (P.posting self.old.post)) (see self.new.book.now self.new.shards self.new.before.value self.new.pass self.new.state (P.posting self.new.post)) }
         ensures waits { result ≡ went.Pending → Rose self.old.stalls self.new.stalls }
     {
         let Some(answer) = self.post.take(shard) else {
-            self.state = State::Sent(number, shard, call);
+            self.state = State::Sent(number, shard, hash, call);
             return self.pend();
         };
         match hear(self.book, &mut self.pass, self.shards, answer) {
             Heard::Ran(slip) => Went::Finished(slip),
             Heard::Wanted(slip) => say_memory(slip),
             Heard::Passed(Why::NoMemory, slip) => Went::NoMemory(slip),
-            Heard::Passed(Why::Refused { .. }, slip) => self.start(slip),
+            Heard::Passed(Why::Refused { .. }, slip) => self.start(slip, shard, hash),
         }
     }
 

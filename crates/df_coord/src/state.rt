@@ -1,4 +1,4 @@
-//! Where a call of one key stands.
+//! Where a call of one hop stands.
 
 use df_caller::Slip;
 use df_hops::Message;
@@ -10,10 +10,10 @@ use std::snapshot::Snapshot;
 pub enum State {
     /// None is under way.
     Idle,
-    /// It was begun, or was refused: its number is still to be drawn.
-    Due(Box<Slip>),
-    /// It was drawn, and its message found no room on the way.
-    Unsent(Message, Snapshot<Call>),
-    /// Its message, with this number, went to this shard.
-    Sent(u64, u32, Snapshot<Call>),
+    /// It was begun, or was refused: its number is still to be drawn. It runs on this shard; its key's hash.
+    Due(Box<Slip>, u32, u64),
+    /// It was drawn, and its message found no room on the way. Its key's hash.
+    Unsent(Message, u64, Snapshot<Call>),
+    /// Its message, with this number, went to this shard. Its key's hash.
+    Sent(u64, u32, u64, Snapshot<Call>),
 }

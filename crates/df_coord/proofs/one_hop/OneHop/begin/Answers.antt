@@ -17,7 +17,8 @@ returns-clause-going g c =
       shards = h.shards;
       stands = (
         idle-so o.state (see o.book.now o.shards o.before.value o.pass o.state (g.P.Post.posting o.post)) c.requires.idle h.stands,
-        c.requires.key,
+        c.requires.runs,
+        c.requires.hash,
         subst (λ (v : Caller). CallPassed o.shards v o.pass c.args.slip.value.call) (sym c.of.ensures) (passed-none o.shards o.pass c.args.slip.value.call h.bounded),
       );
     }
