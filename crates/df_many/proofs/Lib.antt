@@ -1,0 +1,4 @@
+pub mod RoomLaws
+pub mod CallLaws
+pub mod HopLaws
+pub mod LineLaws
