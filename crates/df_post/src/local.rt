@@ -8,18 +8,17 @@ ghost use Rattle.df_post.specs.Locals.{ChangedAt, bare_ways, posting_of, way_at}
 
 use crate::post::Post;
 use crate::way::Way;
-use df_book::Book;
+use df_book::{Book, Witness};
 use df_hops::{Answer, Message};
 use df_model::NoMemory;
 use std::alloc::Global;
 use std::marker::Model;
-use std::snapshot::Snapshot;
 
 /// Room for one message to each shard and for one answer back.
 #[derive(Drop)]
 pub struct LocalPost {
     /// Whose messages go here, for clauses alone.
-    book: Snapshot<Book>,
+    book: Witness<Book>,
     ways: Vec<Way>,
     stalls: u64,
 }
@@ -44,7 +43,7 @@ impl LocalPost {
     {
         let ways = new_ways(alloc, book, shards)?;
         Ok(LocalPost {
-            book: Snapshot::of(book),
+            book: Witness::of(book),
             ways,
             stalls: 0,
         })

@@ -12,19 +12,18 @@ ghost use Rattle.df_post.specs.Rounds.{Counts, Goes, Matches, is_done, place_at,
 
 use crate::post::Post;
 use crate::slot::{Slot, go, hand_out};
-use df_book::Book;
+use df_book::{Book, Witness};
 use df_hops::{Answer, Message};
 use df_model::NoMemory;
 use std::alloc::Global;
 use std::marker::Model;
 use std::mem;
-use std::snapshot::Snapshot;
 
 /// What a call asked of shards at one time, one message each, and what came back.
 #[derive(Drop)]
 pub struct Round {
     /// Whose messages, for clauses alone.
-    book: Snapshot<Book>,
+    book: Witness<Book>,
     /// That of each shard, in order.
     slots: Vec<Slot>,
 }
@@ -51,7 +50,7 @@ impl Round {
     {
         let slots = new_slots(alloc, shards)?;
         Ok(Round {
-            book: Snapshot::of(book),
+            book: Witness::of(book),
             slots,
         })
     }

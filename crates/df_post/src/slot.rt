@@ -9,8 +9,8 @@ ghost use Rattle.df_post.specs.Rounds.{Counts, Goes, IsMine, Lies, OnlyAt, await
 
 use crate::awaited::Awaited;
 use crate::post::Post;
+use df_book::Witness;
 use df_hops::{Answer, Message};
-use std::snapshot::Snapshot;
 
 /// Where the message to a shard stands.
 #[derive(Drop)]
@@ -20,9 +20,9 @@ pub(crate) enum Slot {
     /// It found no room yet.
     Unsent(Message),
     /// It is on its way, and this awaits its answer.
-    Sent(Snapshot<Awaited>),
+    Sent(Witness<Awaited>),
     /// Its answer came.
-    Answered(Snapshot<Awaited>, Answer),
+    Answered(Witness<Awaited>, Answer),
 }
 
 /// Sends what is not sent, or else takes what came.
@@ -55,13 +55,13 @@ fn send<P: Post>(m: Message, post: &mut P) -> Slot
 {
     let awaited = Awaited::of(&m);
     match post.send(m) {
-        Ok(()) => Slot::Sent(Snapshot::of(&awaited)),
+        Ok(()) => Slot::Sent(Witness::of(&awaited)),
         Err(m) => Slot::Unsent(m),
     }
 }
 
 /// Where no answer came, it stays sent.
-fn take<P: Post>(awaited: Snapshot<Awaited>, shard: u32, post: &mut P) -> Slot
+fn take<P: Post>(awaited: Witness<Awaited>, shard: u32, post: &mut P) -> Slot
     requires awaits { awaits_at shard (P.posting post.old) ≡ Some awaited.value }
     ensures mine { IsMine (P.posting post.old).book shard result }
     ensures only { OnlyAt shard (awaited_in (place_of result)) (P.posting post.old) (P.posting post.new) }

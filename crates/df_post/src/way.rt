@@ -5,16 +5,15 @@ ghost use Rattle.df_hops.specs.Shown.{book_shown};
 ghost use Rattle.df_post.specs.Ways.{WaySent, WayTook, fits_there};
 
 use crate::awaited::Awaited;
-use df_book::Book;
+use df_book::{Book, Witness};
 use df_hops::{Answer, Message};
 use std::marker::Model;
-use std::snapshot::Snapshot;
 
 /// The way to a shard and back.
 #[derive(Drop)]
 pub struct Way {
     /// Whose messages go here, for clauses alone.
-    book: Snapshot<Book>,
+    book: Witness<Book>,
     shard: u32,
     awaits: Option<Awaited>,
     out: Option<Message>,
@@ -39,7 +38,7 @@ impl Way {
         ensures { result ≡ record { book = book.now; shard = shard; awaits = None; sent = false; lies = None } }
     {
         Way {
-            book: Snapshot::of(book),
+            book: Witness::of(book),
             shard,
             awaits: None,
             out: None,
@@ -86,6 +85,9 @@ impl Way {
         ensures none { IfNone result (self.old.sent ≡ false) }
         ensures after { self.new ≡ record self.old { sent = false } }
     {
+        if self.out.is_none() {
+            return None;
+        }
         self.out.take()
     }
 
