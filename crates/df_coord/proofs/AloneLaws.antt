@@ -2,7 +2,6 @@
 use Rattle.std.proofs.Common.{◌≡◌, ◌≢◌, ℕ, ◌<◌, Bool, true, false, cond, [], ◌∷◌, refl, sym, ap, ◌∙◌, subst, eq-eqb, ne_eqb}
 use Rattle.std.specs.Prelude.{Some, None, ◌==◌, nat_lt}
 use Rattle.df_model.specs.declared.command.Command.{Command}
-use Rattle.df_model.specs.declared.command.Call.{Call}
 use Rattle.df_model.specs.declared.command.Call.TheVariants.{Single}
 use Rattle.df_log.specs.Acts.{Run}
 use Rattle.df_core.specs.Courses.{Alone, are_quick, course_of}

@@ -21,13 +21,12 @@ ghost use Rattle.df_coord.specs.declared.state.State.TheVariants as states;
 use crate::asking::ask;
 use crate::hearing::{Heard, hear};
 use crate::state::State;
-use df_book::{Book, CallerPass};
+use df_book::{Book, CallerPass, Witness};
 use df_caller::{Slip, Went};
 use df_hops::{Message, Why};
 use df_model::{Call, ErrorText};
 use df_post::Post;
 use std::mem;
-use std::snapshot::Snapshot;
 
 /// Runs calls of one hop over shards. Between its steps `Going` holds of it (specs/OneHops).
 #[derive(Drop)]
@@ -39,7 +38,7 @@ pub struct OneHop<'a, P> {
     pass: CallerPass,
     state: State,
     /// The pass when the call under way began, for clauses alone.
-    before: Snapshot<CallerPass>,
+    before: Witness<CallerPass>,
     /// How often a step had to wait, at most 2^64 - 1.
     stalls: u64,
     /// The way to the shards. Who serves them takes messages from it and puts answers there.
@@ -57,9 +56,9 @@ impl<'a, P: Post> OneHop<'a, P> {
         requires idle { IsIdle (P.posting post) }
         ensures going { Going (see result.book.now result.shards result.before.value result.pass result.state (P.posting result.post)) }
         ensures idle { under result.state ≡ None }
-        ensures same { (result.pass ≡ pass) × (result.post ≡ post) × (result.shards ≡ shards) }
+        ensures same { (result.pass ≡ pass) × (result.post ≡ post) × (result.shards ≡ shards) × (result.book.now ≡ book.now) }
     {
-        let before = Snapshot::of(&pass);
+        let before = Witness::of(&pass);
         OneHop {
             book,
             conn,
@@ -82,9 +81,9 @@ impl<'a, P: Post> OneHop<'a, P> {
         ensures going { Going (see self.new.book.now self.new.shards self.new.before.value self.new.pass self.new.state (P.posting self.new.post)) }
         ensures begun { under self.new.state ≡ Some slip.value.call }
         ensures before { self.new.before.value ≡ self.old.pass }
-        ensures same { (self.new.pass ≡ self.old.pass) × (self.new.post ≡ self.old.post) × (self.new.shards ≡ self.old.shards) × (self.new.stalls ≡ self.old.stalls) }
+        ensures same { (self.new.pass ≡ self.old.pass) × (self.new.post ≡ self.old.post) × (self.new.shards ≡ self.old.shards) × (self.new.book.now ≡ self.old.book.now) × (self.new.stalls ≡ self.old.stalls) }
     {
-        self.before = Snapshot::of(&self.pass);
+        self.before = Witness::of(&self.pass);
         self.state = State::Due(slip, shard, hash);
     }
 
@@ -95,6 +94,7 @@ impl<'a, P: Post> OneHop<'a, P> {
         ensures going { Going (see self.new.book.now self.new.shards self.new.before.value self.new.pass self.new.state (P.posting self.new.post)) }
         ensures stepped { Stepped result (see self.old.book.now self.old.shards self.old.before.value self.old.pass self.old.state (P.posting self.old.post)) (see self.new.book.now self.new.shards self.new.before.value self.new.pass self.new.state (P.posting self.new.post)) }
         ensures waits { result ≡ went.Pending → Rose self.old.stalls self.new.stalls }
+        ensures same { (self.new.before.value ≡ self.old.before.value) × (self.new.book.now ≡ self.old.book.now) × (self.new.shards ≡ self.old.shards) }
     {
         match mem::replace(&mut self.state, State::Idle) {
             State::Idle => unreachable!(),
@@ -111,11 +111,12 @@ impl<'a, P: Post> OneHop<'a, P> {
         ensures going { Going (see self.new.book.now self.new.shards self.new.before.value self.new.pass self.new.state (P.posting self.new.post)) }
         ensures stepped { Stepped result (see self.old.book.now self.old.shards self.old.before.value self.old.pass (states.Due slip shard hash) (P.posting self.old.post)) (see self.new.book.now self.new.shards self.new.before.value self.new.pass self.new.state (P.posting self.new.post)) }
         ensures waits { result ≡ went.Pending → Rose self.old.stalls self.new.stalls }
+        ensures same { (self.new.before.value ≡ self.old.before.value) × (self.new.book.now ≡ self.old.book.now) × (self.new.shards ≡ self.old.shards) }
     {
         if self.book.left(&self.pass) == 0 {
             return Went::Spent(slip);
         }
-        let call = Snapshot::of(&slip.call);
+        let call = Witness::of(&slip.call);
         let m = ask(
             self.book,
             &mut self.pass,
@@ -129,13 +130,13 @@ impl<'a, P: Post> OneHop<'a, P> {
     }
 
     /// Sends the call's message.
-    fn send(&mut self, m: Message, hash: u64, call: Snapshot<Call>) -> Went
+    fn send(&mut self, m: Message, hash: u64, call: Witness<Call>) -> Went
         requires going { Going (see self.old.book.now self.old.shards self.old.before.value self.old.pass (states.Unsent m hash call) (P.posting self.old.post)) }
         requires taken { self.old.state ≡ states.Idle }
         ensures going { Going (see self.new.book.now self.new.shards self.new.before.value self.new.pass self.new.state (P.posting self.new.post)) }
         ensures stepped { Stepped result (see self.old.book.now self.old.shards self.old.before.value self.old.pass (states.Unsent m hash call) (P.posting self.old.post)) (see self.new.book.now self.new.shards self.new.before.value self.new.pass self.new.state (P.posting self.new.post)) }
         ensures waits { (result ≡ went.Pending) × Rose self.old.stalls self.new.stalls }
-        ensures before { (self.new.before.value ≡ self.old.before.value) × (self.new.book.now ≡ self.old.book.now) × (self.new.shards ≡ self.old.shards) }
+        ensures same { (self.new.before.value ≡ self.old.before.value) × (self.new.book.now ≡ self.old.book.now) × (self.new.shards ≡ self.old.shards) }
     {
         let number = m.number;
         let shard = m.shard;
@@ -160,12 +161,13 @@ impl<'a, P: Post> OneHop<'a, P> {
     }
 
     /// Takes the call's answer, if it came.
-    fn wait(&mut self, number: u64, shard: u32, hash: u64, call: Snapshot<Call>) -> Went
+    fn wait(&mut self, number: u64, shard: u32, hash: u64, call: Witness<Call>) -> Went
         requires going { Going (see self.old.book.now self.old.shards self.old.before.value self.old.pass (states.Sent number shard hash call) (P.posting self.old.post)) }
         requires taken { self.old.state ≡ states.Idle }
         ensures going { Going (see self.new.book.now self.new.shards self.new.before.value self.new.pass self.new.state (P.posting self.new.post)) }
         ensures stepped { Stepped result (see self.old.book.now self.old.shards self.old.before.value self.old.pass (states.Sent number shard hash call) (P.posting self.old.post)) (see self.new.book.now self.new.shards self.new.before.value self.new.pass self.new.state (P.posting self.new.post)) }
         ensures waits { result ≡ went.Pending → Rose self.old.stalls self.new.stalls }
+        ensures same { (self.new.before.value ≡ self.old.before.value) × (self.new.book.now ≡ self.old.book.now) × (self.new.shards ≡ self.old.shards) }
     {
         let Some(answer) = self.post.take(shard) else {
             self.state = State::Sent(number, shard, hash, call);
@@ -177,6 +179,13 @@ impl<'a, P: Post> OneHop<'a, P> {
             Heard::Passed(Why::NoMemory, slip) => Went::NoMemory(slip),
             Heard::Passed(Why::Refused { .. }, slip) => self.start(slip, shard, hash),
         }
+    }
+
+    /// The pass as it is.
+    pub fn pass(&self) -> &CallerPass
+        ensures { result.now ≡ self.now.pass }
+    {
+        &self.pass
     }
 
     /// The pass and the way to the shards, where no call is under way.

@@ -19,6 +19,6 @@ returns-clause-going g c =
         idle-so o.state (see o.book.now o.shards o.before.value o.pass o.state (g.P.Post.posting o.post)) c.requires.idle h.stands,
         c.requires.runs,
         c.requires.hash,
-        subst (λ (v : Caller). CallPassed o.shards v o.pass c.args.slip.value.call) (sym c.of.ensures) (passed-none o.shards o.pass c.args.slip.value.call h.bounded),
+        subst (λ (v : Caller). CallPassed o.shards v o.pass c.args.slip.value.call) (sym c.of-self.ensures) (passed-none o.shards o.pass c.args.slip.value.call h.bounded),
       );
     }
