@@ -1,0 +1,10 @@
+use Rattle.std.proofs.Common.{◌≡◌, ◌<◌, ℕ, length}
+use Rattle.std.specs.Prelude.{None}
+use Rattle.df_keys.specs.Asked.{footprint_there}
+use Rattle.df_keys.proofs.put.put_none.Given as goal
+
+abbrev pub invariant-shards : goal.invariant-shards
+invariant-shards l = record {
+  count : length l.keys.items ≡ length l.fn.keys.items;
+  put : (s : ℕ) → s < l.shard → footprint_there s l.keys.items ≡ None;
+}
