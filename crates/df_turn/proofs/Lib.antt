@@ -6,3 +6,4 @@ pub mod BeginLaws
 pub mod OverLaws
 pub mod WholeGoes
 pub mod SeveralGoes
+pub mod AloneGoes

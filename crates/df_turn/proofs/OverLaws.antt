@@ -1,20 +1,24 @@
 -- How a command goes on once a round was answered, and how it comes to its end.
-use Rattle.std.proofs.Common.{◌≡◌, ℕ, Bool, true, false, cond, is_some, List, refl, ap, subst, ◌∙◌}
+use Rattle.std.proofs.Common.{◌≡◌, ◌≢◌, ℕ, Bool, true, false, cond, is_some, List, inl, refl, ap, subst, ◌∙◌}
 use Rattle.std.specs.Prelude.{Option, None, nat_lt}
 use Rattle.df_model.specs.Outcomes.{ok}
+use Rattle.df_model.specs.Reads.{IsLinked}
+use Rattle.df_model.specs.declared.command.WholeOp.TheVariants as wholes
 use Rattle.df_model.specs.declared.command.Command.{Command}
+use Rattle.df_model.specs.declared.command.Command.TheVariants.{Plain, One, Many, Whole, Wrong}
 use Rattle.df_model.specs.declared.reply.Reply.{Reply}
 use Rattle.df_log.specs.Acts.{Act, Told}
-use Rattle.df_core.specs.Courses.{Course, course_of}
+use Rattle.df_core.specs.Courses.{Course, Nowhere, Alone, Spread, Counts, Cuts, Clears, course_of}
+use Rattle.df_core.specs.Courses as courses
 use Rattle.df_core.specs.Due.{some}
-use Rattle.df_core.specs.Done.{want_of_memory}
+use Rattle.df_core.specs.Done.{IsSaveReply, want_of_memory}
 use Rattle.df_core.proofs.HopLaws.{none_passes}
-use Rattle.df_rounds.specs.Standing.{Standing, Asked, asks, goes_on, on_shards}
+use Rattle.df_rounds.specs.Standing.{Standing, Fresh, Asked, asks, goes_on, on_shards}
 use Rattle.df_rounds.specs.Replies.{reply_of, may_stop}
 use Rattle.df_hops.specs.declared.answer.Outcome.{Outcome}
 use Rattle.df_exchange.specs.Asks.{AllHeard}
 use Rattle.df_turn.specs.Steps.{Goes, Says}
-use Rattle.df_turn.specs.Turns.{IsOver, IsClear, WentOn}
+use Rattle.df_turn.specs.Turns.{IsOver, IsClear, IsLent, IsLentBy, WentOn}
 use Rattle.df_turn.specs.declared.turn.Turn.{Turn}
 use Rattle.df_turn.specs.declared.turn.Next.{Next}
 use Rattle.df_turn.specs.declared.turn.Next.TheVariants as nexts
@@ -25,14 +29,20 @@ over_says shards command standing new reply nexts.Asks ended says = absurd says
 over_says shards command standing new reply (nexts.Over said) ended says = (reply, ended, says)
 over_says shards command standing new reply nexts.Unsaid ended says = (reply, ended)
 
--- nothing more is asked, and this is its reply
+-- nothing more is asked, and this is its reply, where a SAVE is answered so
+pub over_saved : (shards : ℕ) (command : Command) (standing : Standing) (new : Turn) (next : Next) (course : Course) (saved reply : Reply) → IsSaveReply saved →
+    course_of shards command ≡ course → goes_on shards command course standing ≡ false → reply_of shards command course saved standing ≡ reply →
+    Says next reply → Goes next shards command standing new
+over_saved shards command standing new next course saved reply may e none is says =
+    let all : reply_of shards command (course_of shards command) saved standing ≡ reply = ap (λ c. reply_of shards command c saved standing) e ∙ is in
+    over_says shards command standing new reply next
+    (subst (IsOver shards command standing) all (IsOver.over saved may (ap (λ c. goes_on shards command c standing) e ∙ none))) says
+
+-- of any other command
 pub over_by : (shards : ℕ) (command : Command) (standing : Standing) (new : Turn) (next : Next) (course : Course) (reply : Reply) →
     course_of shards command ≡ course → goes_on shards command course standing ≡ false → reply_of shards command course ok standing ≡ reply →
     Says next reply → Goes next shards command standing new
-over_by shards command standing new next course reply e none is says =
-    let all : reply_of shards command (course_of shards command) ok standing ≡ reply = ap (λ c. reply_of shards command c ok standing) e ∙ is in
-    over_says shards command standing new reply next
-    (subst (IsOver shards command standing) all (IsOver.over (ap (λ c. goes_on shards command c standing) e ∙ none))) says
+over_by shards command standing new next course reply = over_saved shards command standing new next course ok reply (inl refl)
 
 -- it stops for want of memory, where it may
 pub stop_by : (shards : ℕ) (command : Command) (standing : Standing) (new : Turn) (next : Next) (course : Course) → course_of shards command ≡ course →
@@ -61,3 +71,33 @@ pub heard_by : (shards : ℕ) (command : Command) (standing : Standing) (told : 
     AllHeard (asks shards command course standing) told heard
 heard_by shards command standing told heard course e all =
     let P : Course → Type 0 = λ c. AllHeard (asks shards command c standing) told heard in subst P e all
+
+-- what is lent, by the course
+pub lent_by : (shards : ℕ) (command lent : Command) (course : Course) → course_of shards command ≡ course → IsLent shards Fresh command lent →
+    IsLentBy course command lent
+lent_by shards command lent course e l = let P : Course → Type 0 = λ c. IsLentBy c command lent in subst P e l
+
+-- whatever the course, it may be lent as it is
+pub lent_whole : (shards : ℕ) (command : Command) → IsLent shards Fresh command command
+lent_whole shards command = go (course_of shards command)
+  where
+    go : (course : Course) → IsLentBy course command command
+    go Nowhere = refl
+    go (Alone s) = tt
+    go Spread = refl
+    go courses.Names = refl
+    go Counts = refl
+    go Cuts = refl
+    go Clears = refl
+
+-- what takes another course is no SAVE
+pub no-save : (shards : ℕ) (command : Command) → course_of shards command ≢ Cuts → IsLinked command
+no-save shards (Plain op) ne = refl
+no-save shards (One key op) ne = refl
+no-save shards (Many op) ne = refl
+no-save shards (Whole wholes.Dbsize) ne = refl
+no-save shards (Whole (wholes.Keys pattern)) ne = refl
+no-save shards (Whole wholes.Flushall) ne = refl
+no-save shards (Whole wholes.Flushdb) ne = refl
+no-save shards (Whole wholes.Save) ne = absurd (ne refl)
+no-save shards (Wrong error) ne = refl

@@ -11,6 +11,7 @@ use Rattle.df_model.specs.Spared.{Spared}
 use Rattle.df_model.specs.declared.keys.Mode.{Mode}
 use Rattle.df_model.specs.Keyspace.{Keyspace, held}
 use Rattle.df_model.specs.Meaning.{meaning}
+use Rattle.df_model.specs.Reads.{IsLinked}
 use Rattle.df_model.specs.Replies.{encoding_of}
 use Rattle.df_model.specs.declared.command.Command.{Command}
 use Rattle.df_model.specs.declared.reply.Reply.{Reply}
@@ -18,7 +19,7 @@ use Rattle.df_footprints.specs.Footprints.{modes_on}
 use Rattle.df_log.specs.Acts as acts
 use Rattle.df_log.specs.Acts.{Act, Apply, Changes, Told}
 use Rattle.df_log.specs.Parts.{did, IsTold}
-use Rattle.df_core.specs.Courses.{Spread, course_of, keys_on, changes_on}
+use Rattle.df_core.specs.Courses.{Spread, Cuts, course_of, keys_on, changes_on}
 use Rattle.df_core.specs.Due.{is_nil, values_in, with_values}
 use Rattle.df_core.specs.Done.{want_of_memory}
 use Rattle.df_core.proofs.HopLaws.{none_passes}
@@ -39,7 +40,7 @@ use Rattle.df_turn.specs.declared.turn.Next.{Next}
 use Rattle.df_turn.specs.declared.turn.Next.TheVariants as nexts
 use Rattle.df_turn.proofs.HeardLaws.{wants, ends, values-heard}
 use Rattle.df_turn.proofs.BeginLaws.{asking_by, parts_by}
-use Rattle.df_turn.proofs.OverLaws.{over_by, stop_by, heard_by}
+use Rattle.df_turn.proofs.OverLaws.{over_by, stop_by, heard_by, lent_by, no-save}
 use Rattle.df_turn.proofs.WholeGoes.{kept}
 
 -- ---- what was read
@@ -111,6 +112,7 @@ end-asks wanted act (Some stage) = refl
 -- what a run needs of a round of reads
 pub record ReadsReady (shards : ℕ) (command now : Command) (heard : List (Option Outcome)) (kept : List (Spared (Bytes × Mode))) : Type 0 where
   pub lent : now ≡ command
+  pub linked : IsLinked now
   pub keys : KeysStand shards now kept
   pub values : some_want shards heard ≡ false → (s : ℕ) → s < shards → length (values_heard (heard_of s heard)) ≡ length (modes_at kept s)
 
@@ -142,11 +144,16 @@ module _ (shards : ℕ) (command : Command) (told : ℕ → Told) (turn : Turn) 
       (sym (ap (λ b. b && not (did (told s))) asked)
       ∙ some-none (λ t. is_some (first t) && not (did (told t))) shards (sym (wants shards first told heard (reads_heard a by)) ∙ none) s lt)
 
+  -- it is lent as it is
+  spread_lent : Answered Fresh → course_of shards command ≡ Spread → lent ≡ command
+  spread_lent a by = lent_by shards command lent Spread by a.lent
+
   reads_kept : Answered Fresh → (kept : List (Spared (Bytes × Mode))) → course_of shards command ≡ Spread → KeysStand shards command kept →
       ReadsReady shards command lent heard kept
   reads_kept a kept by stand = record {
-    lent = a.lent;
-    keys = let P : Command → Type 0 = λ c. KeysStand shards c kept in subst P (sym a.lent) stand;
+    lent = spread_lent a by;
+    linked = subst IsLinked (sym (spread_lent a by)) (no-save shards command (λ e. let no : Spread ≡ Cuts = sym by ∙ e in cc));
+    keys = let P : Command → Type 0 = λ c. KeysStand shards c kept in subst P (sym (spread_lent a by)) stand;
     values = λ none s lt.
         values-count shards s (keys_on shards s command) (told s) (heard_of s heard) (heard_at a by s lt) (may_at a by s lt) (had a by none s lt)
         ∙ length-map (fin.entries (modes_on shards s (command ∷ []))) (λ e. e.0)
@@ -174,6 +181,10 @@ module _ (shards : ℕ) (command : Command) (told : ℕ → Told) (turn : Turn) 
         (λ s lt. ap is_some (on-in shards (second_asked shards command Spread told) s lt ∙ asked-once s) ∙ stage-asks (changed s))
 
     keeps-staging : (rest : Rest) → IsStaging (encoding_of (meaning command (values_told shards command told)).0) rest → KeepsOnce shards command told rest
+    keeps-staging rests.Nowhere k = absurd k
+    keeps-staging (rests.Waiting s room) k = absurd k
+    keeps-staging (rests.Running s) k = absurd k
+    keeps-staging rests.Cutting k = absurd k
     keeps-staging rests.Counting k = absurd k
     keeps-staging rests.Walking k = absurd k
     keeps-staging rests.Clearing k = absurd k
@@ -250,7 +261,7 @@ module _ (shards : ℕ) (command : Command) (told : ℕ → Told) (turn : Turn) 
           Goes next shards command (then_told told standing) new
       go Fresh a k =
           run-fresh shards command told turn lent heard new next a k.0
-          (subst (RanOn shards command told turn lent heard next new) a.lent says)
+          (subst (RanOn shards command told turn lent heard next new) (spread_lent shards command told turn lent heard a k.0) says)
       go (Once x) a k = absurd k
       go (Twice x y) a k = absurd k
       go (Thrice x y z) a k = absurd k

@@ -1,4 +1,4 @@
--- DBSIZE, KEYS and FLUSHALL from round to round.
+-- DBSIZE, KEYS, SAVE and FLUSHALL from round to round.
 use Rattle.std.proofs.Common.{◌≡◌, ◌⊎◌, ℕ, Bool, false, cond, List, length, inl, inr, refl, sym, ap, subst, ◌∙◌}
 use Rattle.std.specs.Prelude.{Option}
 use Rattle.std.specs.List.{filter}
@@ -9,9 +9,11 @@ use Rattle.df_model.specs.Outcomes.{bulks, count, ok}
 use Rattle.df_model.specs.declared.command.WholeOp.TheVariants as wholes
 use Rattle.df_model.specs.declared.command.Command.{Command}
 use Rattle.df_model.specs.declared.command.Command.TheVariants.{Whole}
+use Rattle.df_model.specs.declared.reply.ErrorText.TheVariants as errors
+use Rattle.df_model.specs.declared.reply.Reply.TheVariants.{Error}
 use Rattle.df_log.specs.Acts as acts
 use Rattle.df_log.specs.Acts.{Told, Clear}
-use Rattle.df_core.specs.Courses.{Counts, Clears, course_of}
+use Rattle.df_core.specs.Courses.{Counts, Cuts, Clears, course_of}
 use Rattle.df_core.specs.Courses as courses
 use Rattle.df_core.specs.Done.{want_of_memory}
 use Rattle.df_rounds.specs.Standing.{Standing, Fresh, Once, Twice, Thrice, then_told, first_asked, second_asked, third_asked, round_wanted}
@@ -28,7 +30,7 @@ use Rattle.df_turn.specs.declared.turn.Next.{Next}
 use Rattle.df_turn.specs.declared.turn.Next.TheVariants as nexts
 use Rattle.df_turn.proofs.HeardLaws.{wants, ends, sums, named}
 use Rattle.df_turn.proofs.BeginLaws.{asking_by, goes_by}
-use Rattle.df_turn.proofs.OverLaws.{over_by, stop_by, none-asked, heard_by}
+use Rattle.df_turn.proofs.OverLaws.{over_by, over_saved, stop_by, none-asked, heard_by, lent_by}
 
 module _ (shards : ℕ) (command : Command) (told : ℕ → Told) (turn : Turn) (lent : Command) (heard : List (Option Outcome)) where
   abbrev Answered : Standing → Type 0
@@ -69,7 +71,7 @@ module _ (shards : ℕ) (command : Command) (told : ℕ → Told) (turn : Turn) 
   walked_lent standing is a = go standing a (kept standing rests.Walking is a)
     where
       go : (standing : Standing) → Answered standing → Keeps shards command standing rests.Walking → (pattern : Bytes) × (lent ≡ Whole (wholes.Keys pattern))
-      go Fresh a k = (k.0, a.lent ∙ k.1)
+      go Fresh a k = (k.0, lent_by shards command lent courses.Names (ap (course_of shards) k.1) a.lent ∙ k.1)
       go (Once x) a k = absurd k
       go (Twice x y) a k = absurd k
       go (Thrice x y z) a k = absurd k
@@ -84,7 +86,7 @@ module _ (shards : ℕ) (command : Command) (told : ℕ → Told) (turn : Turn) 
       go Fresh a k =
           let by : course_of shards command ≡ courses.Names = ap (course_of shards) k.1 in
           let all = heard_by shards command Fresh told heard courses.Names by a.heard in
-          elim (says k.0 (a.lent ∙ k.1)) [
+          elim (says k.0 (lent_by shards command lent courses.Names by a.lent ∙ k.1)) [
             | inl want ↦ stop_by shards command (Once told) new next courses.Names by refl want
             | inr over ↦
                 over_by shards command (Once told) new next courses.Names _ by (none-asked shards (second_asked shards command courses.Names told) (λ s. refl))
@@ -97,6 +99,20 @@ module _ (shards : ℕ) (command : Command) (told : ℕ → Told) (turn : Turn) 
       go (Once x) a k = absurd k
       go (Twice x y) a k = absurd k
       go (Thrice x y z) a k = absurd k
+
+  -- ---- SAVE
+
+  pub saved_goes : (standing : Standing) (new : Turn) (next : Next) → turn.rest ≡ rests.Cutting → Answered standing → Says next (Error errors.SaveFailed) →
+      Goes next shards command (then_told told standing) new
+  saved_goes standing new next is a says = go standing (kept standing rests.Cutting is a)
+    where
+      go : (standing : Standing) → Keeps shards command standing rests.Cutting → Goes next shards command (then_told told standing) new
+      go Fresh by =
+          over_saved shards command (Once told) new next Cuts (Error errors.SaveFailed) (Error errors.SaveFailed) (inr (inl refl)) by
+          (none-asked shards (second_asked shards command Cuts told) (λ s. refl)) refl says
+      go (Once x) k = absurd k
+      go (Twice x y) k = absurd k
+      go (Thrice x y z) k = absurd k
 
   -- ---- FLUSHALL
 

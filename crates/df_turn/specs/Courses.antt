@@ -16,16 +16,6 @@ course_in found.Counts = courses.Counts
 course_in found.Cuts = courses.Cuts
 course_in found.Clears = courses.Clears
 
--- the command goes round by round: it asks several shards, or all, and its reply is put together of what they tell
-abbrev pub IsTurned : courses.Course → Type 0
-IsTurned courses.Nowhere = ⊥
-IsTurned (courses.Alone s) = ⊥
-IsTurned courses.Spread = Unit {0}
-IsTurned courses.Names = Unit {0}
-IsTurned courses.Counts = Unit {0}
-IsTurned courses.Cuts = ⊥
-IsTurned courses.Clears = Unit {0}
-
 -- it asks the same of each shard, by one message each
 abbrev pub IsOfEach : Course → Type 0
 IsOfEach found.Nowhere = ⊥
@@ -33,7 +23,7 @@ IsOfEach (found.Alone s) = ⊥
 IsOfEach found.Spread = ⊥
 IsOfEach found.Names = Unit {0}
 IsOfEach found.Counts = Unit {0}
-IsOfEach found.Cuts = ⊥
+IsOfEach found.Cuts = Unit {0}
 IsOfEach found.Clears = Unit {0}
 
 -- of a command with some keys, the course with one more, on this shard

@@ -63,6 +63,17 @@ values_heard (Some (outcomes.Names names)) = []
 values_heard (Some (outcomes.Number n)) = []
 values_heard (Some outcomes.NoMemory) = []
 
+-- the reply of a command that ran there
+abbrev pub reply_heard : Option Outcome → Option Bytes
+reply_heard None = None
+reply_heard (Some (outcomes.Ran pieces)) = Some pieces.value
+reply_heard (Some (outcomes.Values values)) = None
+reply_heard (Some outcomes.Staged) = None
+reply_heard (Some outcomes.Applied) = None
+reply_heard (Some (outcomes.Names names)) = None
+reply_heard (Some (outcomes.Number n)) = None
+reply_heard (Some outcomes.NoMemory) = None
+
 -- ---- of the first n shards
 
 -- one of them found no memory

@@ -1,5 +1,5 @@
 -- What each step of a command does: its beginning, and how it goes on, by the kinds of commands.
-use Rattle.std.specs.Prelude.{◌≡◌, ℕ, ◌<◌, Bool, true, false, not, cond, Option, List, length}
+use Rattle.std.specs.Prelude.{◌≡◌, ◌≢◌, ℕ, ◌<◌, Bool, true, false, not, cond, Option, Some, None, List, length}
 use Rattle.std.specs.Option.{option_map}
 use Rattle.std.specs.Global.{Box}
 use Rattle.df_model.specs.Values.{Bytes}
@@ -7,14 +7,15 @@ use Rattle.df_model.specs.Replies.{encoding_of}
 use Rattle.df_model.specs.declared.command.Command.{Command}
 use Rattle.df_model.specs.declared.reply.Reply.{Reply}
 use Rattle.df_model.specs.declared.keys.Keys.{Keys}
-use Rattle.df_log.specs.Acts.{Act, Changes}
+use Rattle.df_log.specs.Acts.{Act, Run, Changes}
 use Rattle.df_core.specs.Due.{some, is_nil}
 use Rattle.df_rounds.specs.Standing.{Standing, first_asked, first_hop, stage_of}
 use Rattle.df_hops.specs.Parts.{act_of}
 use Rattle.df_hops.specs.declared.answer.Outcome.{Outcome}
 use Rattle.df_exchange.specs.Asks.{heard_of}
 use Rattle.df_spread.specs.Spread.{modes_at}
-use Rattle.df_turn.specs.Asked.{footprint_there, keys_named, read_named}
+use Rattle.df_keys.specs.Asked.{footprint_there}
+use Rattle.df_turn.specs.Asked.{keys_named, read_named}
 use Rattle.df_turn.specs.Courses.{course_in}
 use Rattle.df_turn.specs.Heard.{ends_as}
 use Rattle.df_turn.specs.Turns.{Asking, IsOver, part_for}
@@ -34,8 +35,27 @@ pub record BeginsWhole (shards : ℕ) (course : Course) (kept : Rest) (turn : Tu
   pub count : length turn.parts.items ≡ shards
   pub parts : (command : Command) (s : ℕ) → s < shards → option_map act_of (part_for s turn.parts.items) ≡ first_asked shards command (course_in course) s
 
+-- no shard is asked anything yet
+pub record BeginsBare (shards : ℕ) (kept : Rest) (turn : Turn) : Type 0 where
+  pub rest : turn.rest ≡ kept
+  pub hop : turn.hop ≡ 0
+  pub count : length turn.parts.items ≡ shards
+  pub parts : (s : ℕ) → part_for s turn.parts.items ≡ None
+
+-- the command went into the part of this shard
+pub record RunsThere (shard : ℕ) (command : Command) (old new : Turn) : Type 0 where
+  pub rest : new.rest ≡ rests.Running shard
+  pub hop : new.hop ≡ old.hop
+  pub count : length new.parts.items ≡ length old.parts.items
+  pub here : option_map act_of (part_for shard new.parts.items) ≡ Some (Run command)
+  pub others : (s : ℕ) → s ≢ shard → part_for s new.parts.items ≡ part_for s old.parts.items
+
 -- the keys that are named on each shard are kept
 abbrev pub KeepsNamed : List (Option (Box Keys)) → Rest → Type 0
+KeepsNamed keys rests.Nowhere = ⊥
+KeepsNamed keys (rests.Waiting s room) = ⊥
+KeepsNamed keys (rests.Running s) = ⊥
+KeepsNamed keys rests.Cutting = ⊥
 KeepsNamed keys rests.Counting = ⊥
 KeepsNamed keys rests.Walking = ⊥
 KeepsNamed keys rests.Clearing = ⊥
@@ -72,6 +92,10 @@ abbrev pub changes_any : ℕ → (ℕ → Changes) → Bool
 changes_any n changed = some (λ s. not (is_nil (changed s))) n
 
 abbrev pub IsStaging : Bytes → Rest → Type 0
+IsStaging said rests.Nowhere = ⊥
+IsStaging said (rests.Waiting s room) = ⊥
+IsStaging said (rests.Running s) = ⊥
+IsStaging said rests.Cutting = ⊥
 IsStaging said rests.Counting = ⊥
 IsStaging said rests.Walking = ⊥
 IsStaging said rests.Clearing = ⊥

@@ -1,6 +1,9 @@
-//! One command over several shards, round by round: what each shard is asked next, and what comes of the answers.
+//! One command over shards, round by round: what each shard is asked next, and what comes of the answers.
 //!
 //!     command            first round        second                  third
+//!     no key             none: it is answered at once
+//!     keys on one shard  Run, there
+//!     SAVE               Begin
 //!     DBSIZE             Count
 //!     KEYS               Walk
 //!     FLUSHALL           Stage nothing      Clear, or Unstage
@@ -10,6 +13,7 @@
 //! one of them found no memory. No message and no number is known here.
 #![tactic(auto)]
 
+mod alone;
 mod course;
 mod ends;
 mod heard;

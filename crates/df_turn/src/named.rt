@@ -4,7 +4,8 @@ ghost use Rattle.std.specs.Prelude.{◌≡◌, ◌<◌, ℕ, length, map, IfOk};
 ghost use Rattle.std.specs.Option.{option_map};
 ghost use Rattle.df_hops.specs.Parts.{act_of};
 ghost use Rattle.df_spread.specs.Spread.{modes_at};
-ghost use Rattle.df_turn.specs.Asked.{IsNaming, footprint_there, keys_named, read_named};
+ghost use Rattle.df_keys.specs.Asked.{footprint_there};
+ghost use Rattle.df_turn.specs.Asked.{IsNaming, keys_named, read_named};
 ghost use Rattle.df_turn.specs.Turns.{part_for};
 
 use df_hops::Part;

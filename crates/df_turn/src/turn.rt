@@ -3,28 +3,37 @@
 ghost use Rattle.std.specs.Prelude.{◌≡◌, ◌+◌, ◌<◌, ℕ, length, IfOk};
 ghost use Rattle.std.specs.Option.{option_map};
 ghost use Rattle.df_model.specs.declared.command.Command.{Command};
+ghost use Rattle.df_model.specs.declared.command.Call.TheVariants.{Single};
 ghost use Rattle.df_log.specs.Acts.{Told};
-ghost use Rattle.df_core.specs.Courses.{course_of};
+ghost use Rattle.df_core.specs.Courses.{Spread, course_of};
 ghost use Rattle.df_rounds.specs.Standing.{Fresh, Standing, asks, then_told};
 ghost use Rattle.df_hops.specs.Parts.{act_of};
-ghost use Rattle.df_turn.specs.Asked.{FootprintsStand};
-ghost use Rattle.df_turn.specs.Courses.{IsTurned};
+ghost use Rattle.df_keys.specs.Asked.{FootprintsStand};
 ghost use Rattle.df_turn.specs.Steps.{Goes};
-ghost use Rattle.df_turn.specs.Turns.{Asking, IsAnswered, WentOn};
+ghost use Rattle.df_turn.specs.Turns.{Asking, Began, IsAnswered, Ready, WentOn};
 
+use crate::alone::{answered, bare_turn, ran, room};
 use crate::course::{Course, course_of};
 use crate::heard::forget;
 use crate::several::{ended, read_turn};
-use crate::whole::{cleared, counted, walked, whole_turn};
+use crate::whole::{cleared, counted, not_saved, walked, whole_turn};
 use df_hops::{Outcome, Part};
 use df_model::{Command, KeyModes, Keys, NoMemory};
 use df_values::Pieces;
 use std::alloc::Global;
 use std::mem;
 
-/// What a command keeps between two rounds.
+/// What a command keeps until its turn comes, and between two rounds.
 #[derive(Drop)]
 pub enum Rest {
+    /// It names no key, and no shard is asked.
+    Nowhere,
+    /// It runs on this shard alone; the room for it there.
+    Waiting(u32, Box<Command>),
+    /// This shard runs it.
+    Running(u32),
+    /// SAVE: each shard begins a cut.
+    Cutting,
     /// DBSIZE.
     Counting,
     /// KEYS.
@@ -41,7 +50,7 @@ pub enum Rest {
     Ending(bool, Pieces),
 }
 
-/// A command under way over several shards.
+/// A command before its turn, or under way.
 #[derive(Drop)]
 pub struct Turn {
     /// What each shard is asked next, until it is handed out.
@@ -63,8 +72,8 @@ pub enum Next {
 }
 
 impl Turn {
-    /// A command before its first round. The memory of its messages is taken here, but for what it stages. `keys` is what
-    /// its call asks for on each shard.
+    /// A command before its turn. The memory of its first messages is taken here. `keys` is what it asks for on each shard,
+    /// where its keys stand on several; of any other command nobody looks at it.
     pub fn new(
         alloc: Global,
         shards: u32,
@@ -72,18 +81,34 @@ impl Turn {
         keys: &[Option<Box<Keys>>],
     ) -> Result<Turn, NoMemory>
         requires some { 0 < shards }
-        requires turned { IsTurned (course_of shards command.now) }
-        requires keys { FootprintsStand shards command.now keys.now }
-        ensures { IfOk result (λ turn. Asking shards 0 command.now Fresh turn) }
+        requires keys { course_of shards command.now ≡ Spread → FootprintsStand shards (Single command.now) keys.now }
+        ensures { IfOk result (λ turn. Ready shards command.now turn) }
     {
         match course_of(command, shards) {
+            Course::Nowhere => bare_turn(alloc, shards, Rest::Nowhere),
+            Course::Alone(shard) => bare_turn(alloc, shards, Rest::Waiting(shard, room(alloc)?)),
+            Course::Spread => read_turn(alloc, keys),
             Course::Names => whole_turn(alloc, shards, Course::Names, Rest::Walking),
             Course::Counts => whole_turn(alloc, shards, Course::Counts, Rest::Counting),
+            Course::Cuts => whole_turn(alloc, shards, Course::Cuts, Rest::Cutting),
             Course::Clears => whole_turn(alloc, shards, Course::Clears, Rest::Clearing),
-            Course::Spread => read_turn(alloc, keys),
-            Course::Nowhere => unreachable!(),
-            Course::Alone(_) => unreachable!(),
-            Course::Cuts => unreachable!(),
+        }
+    }
+
+    /// The command's turn comes. One that runs on one shard alone moves into its part; one that names no key is over at
+    /// once, and may be emptied. `command` is what `new` was given.
+    pub fn begin(&mut self, alloc: Global, shards: u32, command: &mut Command) -> Next
+        requires some { 0 < shards }
+        requires ready { Ready shards command.old self.old }
+        ensures began { Began result shards command.old self.new command.new }
+    {
+        match mem::replace(&mut self.rest, Rest::Nowhere) {
+            Rest::Nowhere => answered(alloc, command),
+            Rest::Waiting(shard, room) => self.run_there(shard, room, command),
+            rest => {
+                self.rest = rest;
+                Next::Asks
+            }
         }
     }
 
@@ -103,7 +128,7 @@ impl Turn {
         mem::replace(&mut self.parts[shard as usize], None)
     }
 
-    /// Goes on by the answers of a round, which are taken out. `command` is what `new` was given, until its first round was
+    /// Goes on by the answers of a round, which are taken out. `command` is what `begin` left, until its first round was
     /// answered; it may be emptied.
     pub fn go_on(
         &mut self,
@@ -132,6 +157,10 @@ impl Turn {
         ensures went { (asked : Command) (standing : Standing) (told : ℕ → Told) → IsAnswered shards asked standing told self.old command.old outcomes.old → Goes result shards asked (then_told told standing) self.new }
     {
         match mem::replace(&mut self.rest, Rest::Counting) {
+            Rest::Nowhere => unreachable!(),
+            Rest::Waiting(_, _) => unreachable!(),
+            Rest::Running(shard) => ran(alloc, shard, outcomes),
+            Rest::Cutting => not_saved(alloc),
             Rest::Counting => counted(alloc, outcomes),
             Rest::Walking => walked(alloc, command, outcomes),
             Rest::Clearing => self.clear(outcomes),

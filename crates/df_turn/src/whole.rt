@@ -1,4 +1,4 @@
-//! Commands of the whole keyspace: DBSIZE, KEYS and FLUSHALL.
+//! Commands of the whole keyspace: DBSIZE, KEYS, FLUSHALL, and SAVE, which writes no file yet and says so.
 
 ghost use Rattle.std.specs.Prelude.{◌≡◌, ◌<◌, ◌⊎◌, ◌++◌, ℕ, false, cond, length, map, slice_get, IfOk, OnOk, Some};
 ghost use Rattle.std.specs.List.{filter, flat_map};
@@ -8,7 +8,8 @@ ghost use Rattle.df_model.specs.Members as members;
 ghost use Rattle.df_model.specs.Patterns.{is_match};
 ghost use Rattle.df_model.specs.Outcomes.{bulks, count, ok};
 ghost use Rattle.df_model.specs.Replies.{encoding_of};
-ghost use Rattle.df_model.specs.declared.reply.Reply.TheVariants.{Bulk};
+ghost use Rattle.df_model.specs.declared.reply.ErrorText.TheVariants as errors;
+ghost use Rattle.df_model.specs.declared.reply.Reply.TheVariants.{Bulk, Error};
 ghost use Rattle.df_model.specs.declared.command.Command.{Command as TheCommand};
 ghost use Rattle.df_model.specs.declared.command.Command.TheVariants.{Whole};
 ghost use Rattle.df_model.specs.declared.command.WholeOp.TheVariants as wholes;
@@ -71,11 +72,11 @@ fn first_part(alloc: Global, course: Course) -> Result<Part, NoMemory>
     match course {
         Course::Names => Ok(Part::Walk),
         Course::Counts => Ok(Part::Count),
+        Course::Cuts => Ok(Part::Begin),
         Course::Clears => Ok(Part::Stage(Box::new(alloc, Changes::new(alloc))?)),
         Course::Nowhere => unreachable!(),
         Course::Alone(_) => unreachable!(),
         Course::Spread => unreachable!(),
-        Course::Cuts => unreachable!(),
     }
 }
 
@@ -193,6 +194,17 @@ fn name_at(names: &SetVal, i: usize) -> &Bin
     match names.at(i) {
         Some(name) => name,
         None => unreachable!(),
+    }
+}
+
+/// SAVE once every shard began its cut: nobody writes these to a file.
+pub(crate) fn not_saved(alloc: Global) -> Next
+    ensures { Says result (Error errors.SaveFailed) }
+{
+    let mut reply = Pieces::new(alloc);
+    match reply.put_error(&ErrorText::SaveFailed) {
+        Ok(()) => Next::Over(reply),
+        Err(_) => Next::Unsaid,
     }
 }
 

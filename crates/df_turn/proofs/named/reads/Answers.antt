@@ -5,7 +5,8 @@ use Rattle.std.proofs.lemmas.Bool.{cases_lt}
 use Rattle.std.proofs.lemmas.List.{length-append, get_or_default, get_or_past}
 use Rattle.df_hops.specs.Parts.{act_of}
 use Rattle.df_spread.specs.Spread.{modes_at}
-use Rattle.df_turn.specs.Asked.{footprint_there, keys_named, read_named}
+use Rattle.df_keys.specs.Asked.{footprint_there}
+use Rattle.df_turn.specs.Asked.{keys_named, read_named}
 use Rattle.df_turn.specs.Turns.{part_for}
 use Rattle.df_turn.proofs.Places.{each-pushed, modes-past, modes-pushed}
 use Rattle.df_turn.proofs.named.reads.Goals as goal

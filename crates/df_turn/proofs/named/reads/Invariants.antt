@@ -2,7 +2,8 @@ use Rattle.std.proofs.Common.{◌≡◌, ℕ, ◌<◌, length}
 use Rattle.std.specs.Option.{option_map}
 use Rattle.df_hops.specs.Parts.{act_of}
 use Rattle.df_spread.specs.Spread.{modes_at}
-use Rattle.df_turn.specs.Asked.{footprint_there, keys_named, read_named}
+use Rattle.df_keys.specs.Asked.{footprint_there}
+use Rattle.df_turn.specs.Asked.{keys_named, read_named}
 use Rattle.df_turn.specs.Turns.{part_for}
 use Rattle.df_turn.proofs.named.reads.Given as goal
 

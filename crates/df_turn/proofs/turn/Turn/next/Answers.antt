@@ -1,12 +1,38 @@
 use Rattle.std.proofs.Common.{sym}
-use Rattle.df_turn.proofs.WholeGoes.{clear_goes, cleared_goes, counted_goes, walked_goes}
+use Rattle.df_turn.proofs.AloneGoes.{not_nowhere, not_waiting, ran_goes, ran_within}
+use Rattle.df_turn.proofs.WholeGoes.{clear_goes, cleared_goes, counted_goes, saved_goes, walked_goes}
 use Rattle.df_turn.proofs.SeveralGoes.{ended_goes, reads_ready, run_goes, show_goes}
 use Rattle.df_turn.proofs.turn.Turn.next.Goals as goal
+
+pub unreachable-requires : goal.unreachable-requires
+unreachable-requires c =
+    let a = c.requires.answered in
+    not_nowhere c.args.shards a.0 a.2 c.args.self.now c.args.command.now c.args.outcomes.now a.1 (sym c.in-Nowhere.ensures.value) a.3
+
+pub unreachable-requires-in-Waiting : goal.unreachable-requires-in-Waiting
+unreachable-requires-in-Waiting c =
+    let a = c.requires.answered in
+    not_waiting c.args.shards a.0 a.2 c.args.self.now c.args.command.now c.args.outcomes.now a.1 _ _ (sym c.in-Waiting.ensures.value) a.3
+
+pub ran-requires : goal.ran-requires
+ran-requires c =
+    let a = c.requires.answered in
+    ran_within c.args.shards a.0 a.2 c.args.self.now c.args.command.now c.args.outcomes.now a.1 c.in-Running.shard (sym c.in-Running.ensures.value) a.3
 
 pub run-requires-clause-values : goal.run-requires-clause-values
 run-requires-clause-values c =
     let a = c.requires.answered in
     (reads_ready c.args.shards a.0 a.2 c.args.self.now c.args.command.now c.args.outcomes.now a.1 c.in-Reading.keys (sym c.in-Reading.ensures.value) a.3).values
+
+pub returns-in-Running : goal.returns-in-Running
+returns-in-Running c = record {
+  went = λ asked standing told a. ran_goes c.args.shards asked told c.args.self.now c.args.command.now c.args.outcomes.now standing _ c.ran.result c.in-Running.shard (sym c.in-Running.ensures.value) a c.ran.ensures;
+}
+
+pub returns-in-Cutting : goal.returns-in-Cutting
+returns-in-Cutting c = record {
+  went = λ asked standing told a. saved_goes c.args.shards asked told c.args.self.now c.args.command.now c.args.outcomes.now standing _ c.not_saved.result (sym c.in-Cutting.ensures.value) a c.not_saved.ensures;
+}
 
 pub returns-in-Counting : goal.returns-in-Counting
 returns-in-Counting c = record {
