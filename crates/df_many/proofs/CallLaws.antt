@@ -1,33 +1,26 @@
 -- A call of many hops from its draw to what it leaves.
-use Rattle.std.proofs.Common.{◌≡◌, ℕ, ◌+◌, ◌<◌, true, false, is_some, length, List, [], ◌∷◌, inl, refl, sym, ap, ◌∙◌, subst, arith, length-append}
-use Rattle.std.specs.Prelude.{Some, None}
-use Rattle.std.proofs.lemmas.Bool.{false≢true}
-use Rattle.df_model.specs.Outcomes.{ok}
+use Rattle.std.proofs.Common.{◌≡◌, ℕ, ◌+◌, ◌<◌, false, cond, is_some, length, List, [], ◌∷◌, ◌++◌, refl, sym, ap, ◌∙◌, subst, arith, length-append}
+use Rattle.std.specs.Prelude.{None}
+use Rattle.std.proofs.lemmas.Bool.{false≢true, eq-eqb, ne_eqb}
 use Rattle.df_model.specs.declared.command.Command.{Command}
 use Rattle.df_model.specs.declared.command.Call.{Call}
-use Rattle.df_model.specs.declared.command.Call.TheVariants.{Single}
-use Rattle.df_model.specs.declared.reply.Reply.{Reply}
 use Rattle.df_log.specs.Acts.{Told}
-use Rattle.df_core.specs.Courses.{course_of}
-use Rattle.df_core.specs.Done.{want_of_memory}
 use Rattle.df_core.specs.History.{NamesAShard}
-use Rattle.df_core.specs.Steps.{Step}
-use Rattle.df_core.proofs.DueLaws.{next_named}
-use Rattle.df_book.specs.Draws.{draws_of, last_number}
+use Rattle.df_book.specs.Weights.{Each}
+use Rattle.df_book.specs.Draws.{call_at, draws_of, last_number}
 use Rattle.df_book.specs.Passes.{Caller, after_draw, draw_by}
-use Rattle.df_rounds.specs.Standing.{Standing, Fresh, Once, Twice, Thrice, AllMayBeTold, asks, goes_on, then_told}
-use Rattle.df_rounds.specs.Progress.{Progress, Stands, after_command, after_round, hop_next, progress_of}
+use Rattle.df_book.specs.declared.draw.Draw.{Draw}
+use Rattle.df_rounds.specs.Standing.{Standing, Fresh, Once, Twice, Thrice, AllMayBeTold, then_told}
+use Rattle.df_rounds.specs.Progress.{Progress, GoesOn, IsReachedIn, after_round, asks_in, asks_next, progress_of, reply_to}
 use Rattle.df_rounds.specs.Underway.{Underway}
-use Rattle.df_rounds.specs.Between.{Between, row_of}
-use Rattle.df_rounds.proofs.ToldLaws.{some-found, some-is}
-use Rattle.df_rounds.proofs.ProgressLaws.{calls_start, next_is_due, over_goes_on, stop_goes_on}
-use Rattle.df_rounds.proofs.BetweenLaws.{calls_are_drawn, calls_ask, calls_leave, calls_move, calls_pass}
+use Rattle.df_rounds.specs.Between.{Between}
+use Rattle.df_rounds.proofs.ToldLaws.{some-found}
+use Rattle.df_rounds.proofs.BetweenLaws.{calls_are_drawn, calls_ask, calls_leave, calls_pass}
 use Rattle.df_coord.specs.Rows.{CallPassed, CallRan}
 use Rattle.df_coord.proofs.StepLaws.{passed-again, ran-again}
-use Rattle.df_turn.specs.Turns.{IsLent, IsOver, over, stopped}
-use Rattle.df_many.specs.Lines.{Numbered, progress_at}
+use Rattle.df_many.specs.Lines.{Numbered}
 
--- once it was drawn it stands at its command
+-- once it was drawn it stands at its first command
 pub drawn-so : (shards : ℕ) (v u : Caller) (call : Call) (n : ℕ) → Numbered v u call n → Between shards v call n (progress_of call) u
 drawn-so shards v u call n a = subst (λ w. Between shards v call n (progress_of call) w) (sym a.now)
     (calls_are_drawn shards v call n a.above a.below a.fresh a.positive a.bounded)
@@ -40,17 +33,16 @@ last-so shards before u call n progress b =
     let long : length u.own ≡ length before.own + 1 = ap length b.own ∙ length-append before.own (draw_by before call n ∷ []) in
     (omega (arith, long), a.drawn, a.last)
 
--- a command that asks a shard names it
-pub names-so : (shards : ℕ) (command : Command) → 0 < shards → goes_on shards command (course_of shards command) Fresh ≡ true →
-    NamesAShard shards (Single command)
-names-so shards command pos goes =
-    let found = some-found (λ s. is_some (asks shards command (course_of shards command) Fresh s)) shards goes in
-    let act = some-is (asks shards command (course_of shards command) Fresh found.0) found.2 in (
-      found.0,
-      next_named shards (Single command) (λ i. []) found.0 (hop_next shards (progress_of (Single command))) act.0
-          (next_is_due shards (Single command) (progress_of (Single command)) (λ i. []) found.0 act.0 pos
-          (calls_start shards (Single command) (λ i. []) (λ s. refl)) act.1),
-    )
+-- the last draw's call
+call-last : (draws : List Draw) (d : Draw) → Each (λ (x : Draw). x.number < d.number) draws → call_at (draws ++ d ∷ []) d.number ≡ d.call
+call-last [] d low = ap (λ b. cond b d.call (call_at [] d.number)) (eq-eqb d.number d.number refl)
+call-last (x ∷ draws) d low =
+    ap (λ b. cond b x.call (call_at (draws ++ d ∷ []) d.number)) (ne_eqb x.number d.number (λ i. omega (arith, i, low.0)))
+    ∙ call-last draws d low.1
+
+-- and it is the call of that number
+pub call-so : (v u : Caller) (call : Call) (n : ℕ) → Numbered v u call n → call_at u.own n ≡ call
+call-so v u call n a = ap (λ (p : Caller). call_at p.own n) a.now ∙ call-last v.own (draw_by v call n) a.above
 
 -- where no shard was sent a hop it ran nothing
 pub passed-so : (shards : ℕ) (before drawer u : Caller) (call : Call) (n : ℕ) → NamesAShard shards call → CallPassed shards before drawer call →
@@ -65,33 +57,22 @@ passed-so shards before drawer u call n names p a =
         (calls_ask shards drawer call n (progress_of call) (after_draw drawer call n)
         (calls_are_drawn shards drawer call n a.above a.below a.fresh a.positive a.bounded))
 
--- where its command is over it ran, with this reply
-pub ran-so : (shards : ℕ) (before drawer u : Caller) (command : Command) (n : ℕ) (standing : Standing) (reply : Reply) → 0 < shards →
-    CallPassed shards before drawer (Single command) → Between shards drawer (Single command) n (progress_at command standing) u →
-    IsOver shards command standing reply → CallRan shards before u (Single command) reply
-ran-so shards before drawer u command n standing reply pos p b is-over =
-    ran-again shards before drawer u (Single command) n reply p
-    (calls_leave shards drawer (Single command) n (after_command reply [] (progress_at command standing)) u
-    (calls_move shards drawer (Single command) n (progress_at command standing) (after_command reply [] (progress_at command standing)) u b (moved reply is-over)) refl)
-  where
-    moved : (r : Reply) → IsOver shards command standing r → (steps : ℕ → List Step) → Stands shards (Single command) (progress_at command standing) steps →
-        Stands shards (Single command) (after_command r [] (progress_at command standing)) steps
-    moved r (over e) steps stands = over_goes_on shards (Single command) (progress_at command standing) steps command [] ok pos stands refl e (λ cuts. inl refl)
-    moved r (stopped e) steps stands = stop_goes_on shards (Single command) (progress_at command standing) steps command [] pos stands refl e
+-- where its commands are over it ran, with the reply that theirs make
+pub ran-so : (shards : ℕ) (before drawer u : Caller) (call : Call) (n : ℕ) (progress : Progress) → CallPassed shards before drawer call →
+    Between shards drawer call n progress u → progress.left ≡ [] → CallRan shards before u call (reply_to call progress.replies)
+ran-so shards before drawer u call n progress p b over =
+    ran-again shards before drawer u call n (reply_to call progress.replies) p (calls_leave shards drawer call n progress u b over)
 
 -- what was told in a round is what may be told
-pub may-so : (shards : ℕ) (drawer u : Caller) (command : Command) (n : ℕ) (standing : Standing) (told : ℕ → Told) →
-    goes_on shards command (course_of shards command) standing ≡ true →
-    Between shards drawer (Single command) n (after_round told (progress_at command standing)) u →
-    AllMayBeTold shards (asks shards command (course_of shards command) standing) told
-may-so shards drawer u command n Fresh told goes b = b.stands.reached.1
-may-so shards drawer u command n (Once a) told goes b = b.stands.reached.2
-may-so shards drawer u command n (Twice a c) told goes b = b.stands.reached.4
-may-so shards drawer u command n (Thrice a c d) told goes b = absurd (false≢true (some-found (λ s. false) shards goes).2)
+may-in : (shards : ℕ) (left : List Command) (standing : Standing) (told : ℕ → Told) → GoesOn shards left standing →
+    IsReachedIn shards left (then_told told standing) → AllMayBeTold shards (asks_in shards left standing) told
+may-in shards [] standing told goes reached = absurd goes
+may-in shards (command ∷ commands) Fresh told goes reached = reached.1
+may-in shards (command ∷ commands) (Once a) told goes reached = reached.2
+may-in shards (command ∷ commands) (Twice a b) told goes reached = reached.4
+may-in shards (command ∷ commands) (Thrice a b c) told goes reached = absurd (false≢true (some-found (λ s. false) shards goes).2)
 
--- behind the first round nobody needs the command
-pub lent-on : (standing : Standing) (told : ℕ → Told) (command rest : Command) → IsLent (then_told told standing) command rest
-lent-on Fresh told command rest = tt
-lent-on (Once a) told command rest = tt
-lent-on (Twice a b) told command rest = tt
-lent-on (Thrice a b c) told command rest = tt
+pub may-so : (shards : ℕ) (drawer u : Caller) (call : Call) (n : ℕ) (progress : Progress) (told : ℕ → Told) →
+    GoesOn shards progress.left progress.standing → Between shards drawer call n (after_round told progress) u →
+    AllMayBeTold shards (asks_next shards progress) told
+may-so shards drawer u call n progress told goes b = may-in shards progress.left progress.standing told goes b.stands.reached

@@ -1,34 +1,29 @@
 -- A line from one state of its call to the next.
-use Rattle.std.proofs.Common.{◌≡◌, ℕ, ◌<◌, Bool, true, false, is_some, length, List, [], ◌∷◌, refl, sym, ap, ◌∙◌, subst, arith}
-use Rattle.std.specs.Prelude.{Option, Some, None}
+use Rattle.std.proofs.Common.{◌≡◌, ℕ, ◌<◌, Bool, true, false, is_some, length, List, refl, sym, ap, ◌∙◌, subst}
+use Rattle.std.specs.Prelude.{Option, None}
 use Rattle.std.proofs.lemmas.Bool.{false≢true}
-use Rattle.df_model.specs.declared.command.Command.{Command}
+use Rattle.df_model.specs.Calls.{IsCall}
 use Rattle.df_model.specs.declared.command.Call.{Call}
-use Rattle.df_model.specs.declared.command.Call.TheVariants.{Single}
-use Rattle.df_model.specs.declared.reply.Reply.{Reply}
-use Rattle.df_core.specs.Courses.{course_of}
-use Rattle.df_core.specs.History.{NamesAShard}
-use Rattle.df_book.specs.Draws.{Bounded, call_at}
+use Rattle.df_book.specs.Draws.{Bounded}
 use Rattle.df_book.specs.Passes.{BookName, Caller}
 use Rattle.df_caller.specs.declared.caller.Went.{Went}
 use Rattle.df_caller.specs.declared.caller.Went.TheVariants as went
-use Rattle.df_log.specs.Acts.{Told}
-use Rattle.df_rounds.specs.Standing.{Fresh, asks, goes_on, then_told}
-use Rattle.df_rounds.specs.Progress.{Progress, after_round, progress_of}
+use Rattle.df_rounds.specs.Progress.{Progress, GoesOn as RoundGoesOn, progress_of}
 use Rattle.df_rounds.specs.Between.{Between}
-use Rattle.df_rounds.proofs.ToldLaws.{some-found, some-is}
-use Rattle.df_rounds.proofs.BetweenLaws.{tickets_ask}
+use Rattle.df_rounds.proofs.BetweenLaws.{calls_move}
 use Rattle.df_post.specs.Postings.{Posting}
-use Rattle.df_post.specs.Rounds.{Place, Idle, Unsent, Sent, Answered, RoundView, Goes, stays, sent, came, Matches, is_done, place_at}
+use Rattle.df_post.specs.Rounds.{Place, Idle, RoundView, Goes, stays, sent, came, Matches, is_done, place_at}
 use Rattle.df_post.specs.declared.awaited.Kind.{Kind}
 use Rattle.df_hops.specs.declared.answer.Outcome.{Outcome}
 use Rattle.df_exchange.specs.Exchanges.{Hearing, Rounded, asked_in}
 use Rattle.df_exchange.proofs.AskLaws.{exchanges_go}
 use Rattle.df_exchange.proofs.HearLaws.{exchanges_go_round}
-use Rattle.df_turn.specs.Turns.{IsAnswered, IsClear, IsOver}
-use Rattle.df_coord.specs.Rows.{CallPassed, CallRan}
-use Rattle.df_many.specs.Rooms.{AllIdle, AllOf, IsRoom, OfKind, SameWay}
-use Rattle.df_many.specs.Lines.{GaveUp, HasPost, HasRun, Holds, Hops, IsDue, IsLast, IsOfTurns, MayAsk, Numbered, Places, Replied, StandsAs, Stepped, progress_at, under}
+use Rattle.df_turn.specs.Turns.{IsClear}
+use Rattle.df_plan.specs.Plans.{Asks, GoesTo, IsAnswered, Planned}
+use Rattle.df_plan.specs.declared.plan.Plan.{Plan}
+use Rattle.df_coord.specs.Rows.{CallPassed}
+use Rattle.df_many.specs.Rooms.{AllIdle, IsRoom, OfKind, SameWay, is_asked}
+use Rattle.df_many.specs.Lines.{GoesOn, HasPost, HasRun, Holds, Hops, IsDue, IsLast, IsThrough, MaySetOut, Places, StandsAs, Stepped, under}
 use Rattle.df_many.specs.declared.line.Line.{Line}
 use Rattle.df_many.specs.declared.room.Room.{Room}
 use Rattle.df_many.specs.declared.state.State.{State}
@@ -36,7 +31,7 @@ use Rattle.df_many.specs.declared.state.State.TheVariants as states
 use Rattle.df_many.specs.declared.state.Turned.{Turned}
 use Rattle.df_caller.specs.declared.slip.Slip.{Slip}
 use Rattle.std.specs.Global.{Box}
-use Rattle.df_many.proofs.CallLaws.{drawn-so, last-so, may-so, names-so, passed-so, ran-so}
+use Rattle.df_many.proofs.CallLaws.{drawn-so, last-so, may-so, passed-so, ran-so}
 
 -- ---- messages go and answers come
 
@@ -45,10 +40,13 @@ goes-idle p q (stays x) e = e
 goes-idle p q (sent a) e = absurd (false≢true (ap is_done e))
 goes-idle p q (came a) e = absurd (false≢true (ap is_done e))
 
+goes-asked : (p q : Place) → Goes p q → asked_in p ≡ asked_in q
+goes-asked p q (stays x) = refl
+goes-asked p q (sent a) = refl
+goes-asked p q (came a) = refl
+
 goes-kind : (kind : Kind) (p q : Place) → Goes p q → OfKind kind (asked_in p) → OfKind kind (asked_in q)
-goes-kind kind p q (stays x) k = k
-goes-kind kind p q (sent a) k = k
-goes-kind kind p q (came a) k = k
+goes-kind kind p q g k = subst (OfKind kind) (goes-asked p q g) k
 
 -- the room with another round
 abbrev pub with-round : RoundView → Room → Room
@@ -82,28 +80,25 @@ stands-goes : (state : State) (l : Line) (round : RoundView) → length round.pl
     ((s : ℕ) → Goes (place_at s l.room.round) (place_at s round)) → StandsAs state l → StandsAs state (record l { room = with-round round l.room })
 stands-goes states.Idle l round places goes h = λ s. goes-idle (place_at s l.room.round) (place_at s round) (goes s) (h s)
 stands-goes (states.Due slip) l round places goes h =
-    (λ s. goes-idle (place_at s l.room.round) (place_at s round) (goes s) (h.0 s), record { turns = h.1.turns; passed = h.1.passed })
+    (λ s. goes-idle (place_at s l.room.round) (place_at s round) (goes s) (h.0 s), record { is_call = h.1.is_call; passed = h.1.passed })
 stands-goes (states.Placing t) l round places goes h = record {
-  turns = h.turns;
   whole = h.whole;
+  is_call = h.is_call;
   drawer = h.drawer;
   passed = h.passed;
   numbered = h.numbered;
-  asking = h.asking;
+  planned = h.planned;
   messages = λ s. goes-kind _ (place_at s l.room.round) (place_at s round) (goes s) (h.messages s);
+  named = λ s asked. h.named s (ap is_some (goes-asked (place_at s l.room.round) (place_at s round) (goes s)) ∙ asked);
 }
 stands-goes (states.Withdrawing slip again) l round places goes h =
-    (λ s. goes-kind _ (place_at s l.room.round) (place_at s round) (goes s) (h.0 s), record { turns = h.1.turns; passed = h.1.passed })
+    (λ s. goes-kind _ (place_at s l.room.round) (place_at s round) (goes s) (h.0 s), record { is_call = h.1.is_call; passed = h.1.passed })
 stands-goes (states.Hopping t) l round places goes h = record {
-  turns = h.turns;
-  standing = h.standing;
-  rest = h.rest;
-  holds = h.holds;
-  lent = h.lent;
+  progress = h.progress;
+  asks = h.asks;
   drawer = h.drawer;
   passed = h.passed;
-  asking = h.asking;
-  exchanging = exchanges_go l.shards l.shards t.number h.drawer t.call.value (progress_at h.turns.command h.standing) l.pass l.room.round round h.exchanging places goes;
+  exchanging = exchanges_go l.shards l.shards t.number h.drawer t.call.value h.progress l.pass l.room.round round h.exchanging places goes;
 }
 stands-goes (states.Leaving slip said call) l round places goes h =
     (λ s. goes-kind _ (place_at s l.room.round) (place_at s round) (goes s) (h.0 s), record { reply = h.1.reply; ran = h.1.ran; lies = h.1.lies })
@@ -123,26 +118,23 @@ holds-goes state l round book places goes h = record {
 -- the state's place in the line may be empty by then, and a wait was counted
 stands-taken : (state now : State) (waits : ℕ) (l : Line) → StandsAs state l → StandsAs state (record l { state = now; stalls = waits })
 stands-taken states.Idle now waits l h = h
-stands-taken (states.Due slip) now waits l h = (h.0, record { turns = h.1.turns; passed = h.1.passed })
+stands-taken (states.Due slip) now waits l h = (h.0, record { is_call = h.1.is_call; passed = h.1.passed })
 stands-taken (states.Placing t) now waits l h = record {
-  turns = h.turns;
   whole = h.whole;
+  is_call = h.is_call;
   drawer = h.drawer;
   passed = h.passed;
   numbered = h.numbered;
-  asking = h.asking;
+  planned = h.planned;
   messages = h.messages;
+  named = h.named;
 }
-stands-taken (states.Withdrawing slip again) now waits l h = (h.0, record { turns = h.1.turns; passed = h.1.passed })
+stands-taken (states.Withdrawing slip again) now waits l h = (h.0, record { is_call = h.1.is_call; passed = h.1.passed })
 stands-taken (states.Hopping t) now waits l h = record {
-  turns = h.turns;
-  standing = h.standing;
-  rest = h.rest;
-  holds = h.holds;
-  lent = h.lent;
+  progress = h.progress;
+  asks = h.asks;
   drawer = h.drawer;
   passed = h.passed;
-  asking = h.asking;
   exchanging = h.exchanging;
 }
 stands-taken (states.Leaving slip said call) now waits l h = (h.0, record { reply = h.1.reply; ran = h.1.ran; lies = h.1.lies })
@@ -194,7 +186,7 @@ holds-due state l room slip h r idle d = record {
   caller = h.caller;
   bounded = h.bounded;
   room = r;
-  stands = (idle, record { turns = d.turns; passed = d.passed });
+  stands = (idle, record { is_call = d.is_call; passed = d.passed });
 }
 
 pub idle-so : (state : State) (l : Line) → under state ≡ None → StandsAs state l → AllIdle l.room.round
@@ -219,48 +211,33 @@ post-stays old new p w m = record {
 
 -- ---- its call
 
--- the call that was drawn last
-pub call-so : (shards : ℕ) (v u : Caller) (command : Command) (n : ℕ) → 0 < shards →
-    Between shards v (Single command) n (progress_of (Single command)) u → goes_on shards command (course_of shards command) Fresh ≡ true →
-    call_at u.own n ≡ Single command
-call-so shards v u command n pos b goes =
-    let found = some-found (λ s. is_some (asks shards command (course_of shards command) Fresh s)) shards goes in
-    let act = some-is (asks shards command (course_of shards command) Fresh found.0) found.2 in
-    (tickets_ask shards v (Single command) n (progress_of (Single command)) u u found.0 act.0 pos b refl refl act.1).call_is
-
--- once it was drawn it stands at its command
-pub between-so : (shards : ℕ) (v u : Caller) (call : Call) (command : Command) (n : ℕ) → call ≡ Single command → Numbered v u call n →
-    Between shards v call n (progress_at command Fresh) u
-between-so shards v u call command n is a =
-    subst (λ x. Between shards v x n (progress_at command Fresh) u) (sym is)
-    (drawn-so shards v u (Single command) n (subst (λ x. Numbered v u x n) is a))
-
--- with all its places it may ask
-pub may-ask : (t : Turned) (l : Line) (room : Room) → Places t l → MayAsk t (record l { room = room })
-may-ask t l room p = record {
-  turns = p.turns;
-  standing = Fresh;
-  rest = p.turns.command;
-  holds = p.whole ∙ p.turns.is;
-  lent = refl;
+-- with all its places it may set out
+pub may-set-out : (t : Turned) (l : Line) (room : Room) → Places t l → room.plan ≡ l.room.plan → MaySetOut t (record l { room = room })
+may-set-out t l room p same = record {
+  whole = p.whole;
   drawer = p.drawer;
   passed = p.passed;
-  asking = p.asking;
-  between = between-so l.shards p.drawer l.pass t.call.value p.turns.command t.number p.turns.is p.numbered;
+  numbered = p.numbered;
+  planned = subst (λ (plan : Plan). Planned l.shards t.call.value plan t.slip.value.reply) (sym same) p.planned;
 }
 
--- without them it ran nothing
-pub due-again : (t : Turned) (l : Line) (room : Room) → 0 < l.shards → Places t l → IsDue t.slip.value.call (record l { room = room })
-due-again t l room pos p = record {
-  turns = record { command = p.turns.command; is = p.whole ∙ p.turns.is; linked = p.turns.linked; turned = p.turns.turned };
+-- without one of them it ran nothing
+pub due-again : (t : Turned) (l : Line) (room : Room) → Places t l → (s : ℕ) × (is_asked (place_at s l.room.round) ≡ true) →
+    IsDue t.slip.value.call (record l { room = room })
+due-again t l room p asked = record {
+  is_call = subst IsCall (sym p.whole) p.is_call;
   passed = subst (λ x. CallPassed l.shards l.before.value l.pass x) (sym p.whole)
-      (passed-so l.shards l.before.value p.drawer l.pass t.call.value t.number
-      (subst (NamesAShard l.shards) (sym p.turns.is) (names-so l.shards p.turns.command pos p.asking.goes)) p.passed p.numbered);
+      (passed-so l.shards l.before.value p.drawer l.pass t.call.value t.number (p.named asked.0 asked.1) p.passed p.numbered);
 }
 
 pub last-of : (l : Line) (v : Caller) (call : Call) (n : ℕ) (progress : Progress) → Between l.shards v call n progress l.pass → IsLast n l
 last-of l v call n progress b =
     let h = last-so l.shards v l.pass call n progress b in record { own = h.0; drawn = h.1; last = h.2 }
+
+pub last-placed : (t : Turned) (l : Line) (room : Room) → Places t l → IsLast t.number (record l { room = room })
+last-placed t l room p =
+    let h = last-so l.shards p.drawer l.pass t.call.value t.number (progress_of t.call.value) (drawn-so l.shards p.drawer l.pass t.call.value t.number p.numbered) in
+    record { own = h.0; drawn = h.1; last = h.2 }
 
 -- ---- a step
 
@@ -285,35 +262,57 @@ step-as (went.Spent slip) was now l new room e s =
 pub pends-so : (w : Went) (was : State) (l new : Line) → w ≡ went.Pending → under new.state ≡ under was → Stepped w was l new
 pends-so w was l new is e = subst (λ x. Stepped x was l new) (sym is) e
 
+-- ---- what its commands come to
+
+-- it asks its shards next, or is over
+pub goes-on : (b : Bool) (t : Turned) (l : Line) (drawer : Caller) (progress : Progress) → CallPassed l.shards l.before.value drawer t.call.value →
+    Between l.shards drawer t.call.value t.number progress l.pass → GoesTo b l.shards t.call.value progress l.room.plan t.slip.value → GoesOn b t l
+goes-on true t l drawer progress p b g = record {
+  progress = g.0;
+  asks = g.2;
+  drawer = drawer;
+  passed = p;
+  between = calls_move l.shards drawer t.call.value t.number progress g.0 l.pass b g.1;
+}
+goes-on false t l drawer progress p b g = record {
+  progress = g.0;
+  is_over = g.2;
+  drawer = drawer;
+  passed = p;
+  between = calls_move l.shards drawer t.call.value t.number progress g.0 l.pass b g.1;
+}
+
+-- where it is over it ran
+pub has-run : (t : Turned) (l : Line) (said : Bool) → said ≡ l.room.plan.said → IsThrough t l → HasRun t.call.value said t.slip.value.reply l
+has-run t l said is h = record {
+  reply = _;
+  ran = ran-so l.shards l.before.value h.drawer l.pass t.call.value t.number h.progress h.passed h.between h.is_over.left;
+  lies = λ e. h.is_over.says (sym is ∙ e);
+}
+
 -- ---- a round that was heard
 
-pub hop-rounds : (t : Turned) (l : Line) (h : Hops t l) (u : Caller) (round : RoundView) (outcomes : List (Option Outcome)) → 0 < l.shards →
-    Hearing l.shards l.shards t.number h.drawer t.call.value (progress_at h.turns.command h.standing) u round outcomes →
-    Rounded l.shards t.number h.drawer t.call.value (progress_at h.turns.command h.standing) u round outcomes
-hop-rounds t l h u round outcomes pos heard =
-    exchanges_go_round l.shards t.number h.drawer t.call.value (progress_at h.turns.command h.standing) u round outcomes pos h.asking.goes heard
+-- a shard was asked
+round-goes : (t : Turned) (l : Line) (h : Hops t l) → RoundGoesOn l.shards h.progress.left h.progress.standing
+round-goes t l h = subst (λ left. RoundGoesOn l.shards left h.progress.standing) (sym h.asks.left) h.asks.asking.goes
 
-pub answered-so : (t : Turned) (l : Line) (h : Hops t l) (u : Caller) (round : RoundView) (outcomes : List (Option Outcome)) → 0 < l.shards →
-    length outcomes ≡ l.shards →
-    (r : Rounded l.shards t.number h.drawer t.call.value (progress_at h.turns.command h.standing) u round outcomes) →
-    IsAnswered l.shards h.turns.command h.standing r.told t.turn h.rest outcomes
-answered-so t l h u round outcomes pos count r = record {
+-- it is one round further, by what its shards told
+pub hop-rounds : (t : Turned) (l : Line) (h : Hops t l) (u : Caller) (round : RoundView) (outcomes : List (Option Outcome)) → 0 < l.shards →
+    Hearing l.shards l.shards t.number h.drawer t.call.value h.progress u round outcomes →
+    Rounded l.shards t.number h.drawer t.call.value h.progress u round outcomes
+hop-rounds t l h u round outcomes pos heard =
+    exchanges_go_round l.shards t.number h.drawer t.call.value h.progress u round outcomes pos (round-goes t l h) heard
+
+-- the plan may go on by it
+pub answered-so : (t : Turned) (l : Line) (h : Hops t l) (u : Caller) (round : RoundView) (outcomes : List (Option Outcome)) (plan : Plan) (slip : Slip) →
+    0 < l.shards → length outcomes ≡ l.shards → plan ≡ l.room.plan → slip ≡ t.slip.value →
+    (r : Rounded l.shards t.number h.drawer t.call.value h.progress u round outcomes) →
+    IsAnswered l.shards t.call.value h.progress r.told plan slip outcomes
+answered-so t l h u round outcomes plan slip pos count same kept r = record {
   some = pos;
-  linked = h.turns.linked;
-  asking = h.asking;
-  lent = h.lent;
-  may = may-so l.shards h.drawer u h.turns.command t.number h.standing r.told h.asking.goes
-      (subst (λ x. Between l.shards h.drawer x t.number (after_round r.told (progress_at h.turns.command h.standing)) u) h.turns.is r.between);
+  asks = subst (λ (p : Plan). Asks l.shards l.shards t.call.value h.progress p slip) (sym same)
+      (subst (λ (x : Slip). Asks l.shards l.shards t.call.value h.progress l.room.plan x) (sym kept) h.asks);
+  may = may-so l.shards h.drawer u t.call.value t.number h.progress r.told (round-goes t l h) r.between;
   count = count;
   heard = r.heard;
 }
-
--- where its command is over it ran
-pub has-run : (t : Turned) (l : Line) (h : Hops t l) (u : Caller) (told : ℕ → Told) (reply : Reply) → 0 < l.shards →
-    Between l.shards h.drawer t.call.value t.number (after_round told (progress_at h.turns.command h.standing)) u →
-    IsOver l.shards h.turns.command (then_told told h.standing) reply → CallRan l.shards l.before.value u t.call.value reply
-has-run t l h u told reply pos b is-over =
-    subst (λ x. CallRan l.shards l.before.value u x reply) (sym h.turns.is)
-    (ran-so l.shards l.before.value h.drawer u h.turns.command t.number (then_told told h.standing) reply pos
-    (subst (λ x. CallPassed l.shards l.before.value h.drawer x) h.turns.is h.passed)
-    (subst (λ x. Between l.shards h.drawer x t.number (after_round told (progress_at h.turns.command h.standing)) u) h.turns.is b) is-over)

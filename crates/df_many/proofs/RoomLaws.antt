@@ -1,23 +1,27 @@
 -- Messages put into a round and taken out of it, shard after shard.
-use Rattle.std.proofs.Common.{◌≡◌, ◌≢◌, ℕ, zero, suc, ◌+◌, ◌<◌, ◌≤◌, true, length, List, [], ◌∷◌, ◌++◌, inl, inr, refl, sym, ap, ◌∙◌, subst, arith}
-use Rattle.std.specs.Prelude.{Option, Some, None, IfNone, IfSome, get_or, set}
+use Rattle.std.proofs.Common.{◌≡◌, ◌≢◌, ℕ, zero, suc, ◌+◌, ◌<◌, ◌≤◌, Bool, true, false, is_some, length, List, [], ◌∷◌, ◌++◌, inl, inr, refl, sym, ap, ◌∙◌, subst, arith}
+use Rattle.std.specs.Prelude.{◌⊎◌, Option, Some, None, IfNone, IfSome, get_or, set}
+use Rattle.std.proofs.lemmas.Bool.{false≢true, cases_lt}
 use Rattle.std.specs.Option.{option_map}
 use Rattle.std.specs.Global.{Box}
-use Rattle.std.proofs.lemmas.Bool.{false≢true, cases_lt}
-use Rattle.std.proofs.lemmas.List.{get_or-set_other, get_or-set_same}
-use mathlib.Core.Logic.{dite}
-use native.Mathlib.Decide.{ℕ_discrete}
+use Rattle.std.proofs.lemmas.List.{get_or-set_other, get_or_read}
 use Rattle.df_model.specs.declared.keys.Keys.{Keys}
 use Rattle.df_hops.specs.declared.answer.Outcome.{Outcome}
-use Rattle.df_book.specs.Passes.{BookName}
+use Rattle.df_book.specs.Passes.{BookName, Caller}
 use Rattle.df_post.specs.Rounds.{Place, Idle, Unsent, Sent, Answered, RoundView, awaited_in, place_at, is_done}
 use Rattle.df_post.specs.declared.awaited.Awaited.{Awaited}
 use Rattle.df_post.specs.declared.awaited.Kind.{Kind}
+use Rattle.df_post.specs.declared.awaited.Kind.TheVariants as kinds
 use Rattle.df_post.proofs.RoundLaws.{each-set}
-use Rattle.df_many.specs.Rooms.{AllIdle, AllOf, IsRoom, OfKind, SameWay}
+use Rattle.df_model.specs.declared.command.Call.{Call}
+use Rattle.df_footprints.specs.Footprints.{footprint_of}
+use Rattle.df_core.specs.History.{NamesAShard}
+use Rattle.df_keys.specs.Asked.{FootprintsStand, footprint_there}
+use Rattle.df_many.specs.Rooms.{AllIdle, AllOf, IsRoom, OfKind, SameWay, is_asked}
+use Rattle.df_many.specs.declared.places.Placed.{Placed}
+use Rattle.df_many.specs.declared.places.Placed.TheVariants as places
 use Rattle.df_many.specs.declared.room.Room.{Room}
 use Rattle.df_exchange.specs.Asks.{heard_of}
-use Rattle.df_turn.specs.Asked.{footprint_there}
 use Rattle.df_exchange.specs.Exchanges.{asked_in}
 
 -- ---- put in
@@ -120,15 +124,63 @@ heard-way old new book places done idle = record {
   awaits = λ s. ap awaited_in (idle s) ∙ sym (done-awaits (place_at s old) (done s));
 }
 
--- ---- what is asked for
+-- ---- who was asked
 
-pub found-more : (keys : List (Option (Box Keys))) (t : ℕ) (new : Option (Box Keys)) (F : ℕ → Option Keys) → t < length keys →
-    ((s : ℕ) → s < t → footprint_there s keys ≡ F s) → option_map (λ k. k.value) new ≡ F t →
-    (s : ℕ) → s < t + 1 → footprint_there s (set keys t new) ≡ F s
-found-more keys t new F lt found is s below = dite (ℕ_discrete s t)
-    (λ (e : s ≡ t). subst (λ i. footprint_there i (set keys t new) ≡ F i) (sym e)
-    (ap (λ o. option_map (λ k. k.value) o) (get_or-set_same keys t new None lt) ∙ is))
-    (λ (ne : s ≢ t). ap (λ o. option_map (λ k. k.value) o) (get_or-set_other keys t s new None ne) ∙ found s (omega (arith, below, ne)))
+-- the answer that a place holds was asked for
+pub answered-asked : (p : Place) (a : Awaited) → p ≡ Answered a → is_asked p ≡ true
+answered-asked p a e = ap is_asked e
+
+-- what was taken out before is not asked any more, and nothing else was put in
+pub asked-set : (round now : RoundView) (t : ℕ) (first : RoundView) → now.places ≡ set round.places t Idle →
+    ((s : ℕ) → is_asked (place_at s round) ≡ true → is_asked (place_at s first) ≡ true) →
+    (s : ℕ) → is_asked (place_at s now) ≡ true → is_asked (place_at s first) ≡ true
+asked-set round now t first places f s =
+    subst (λ ps. is_asked (get_or ps s Idle) ≡ true → is_asked (place_at s first) ≡ true) (sym places)
+    (each-set (λ i p. is_asked p ≡ true → is_asked (place_at i first) ≡ true) round.places t Idle Idle f (λ e. absurd (false≢true e)) s)
+
+-- some shard was asked, unless all say that the call has its place there
+abbrev pub SomeAsked : Placed → RoundView → Type 0
+SomeAsked placed round = placed ≢ places.Everywhere → (s : ℕ) × (is_asked (place_at s round) ≡ true)
+
+pub some-asked : (one other both : Placed) (round : RoundView) → (both ≡ one) ⊎ (both ≡ other) → SomeAsked one round → SomeAsked other round →
+    SomeAsked both round
+some-asked one other both round is first second not =
+    elim is [ inl e ↦ first (λ all. not (e ∙ all)) | inr e ↦ second (λ all. not (e ∙ all)) ]
+
+abbrev is_everywhere : Placed → Bool
+is_everywhere places.Everywhere = true
+is_everywhere places.Refused = false
+is_everywhere places.NoMemory = false
+
+pub refused-not : (placed : Placed) → placed ≡ places.Refused → placed ≢ places.Everywhere
+refused-not placed is all = false≢true (sym (ap is_everywhere is) ∙ ap is_everywhere all)
+
+pub wanting-not : (placed : Placed) → placed ≡ places.NoMemory → placed ≢ places.Everywhere
+wanting-not placed is all = false≢true (sym (ap is_everywhere is) ∙ ap is_everywhere all)
+
+-- what is taken for a shard is the call's footprint there
+pub found-there : (shards t : ℕ) (call : Call) (was now : List (Option (Box Keys))) (item : Option (Box Keys)) (k : Box Keys) → t < length now →
+    item ≡ get_or now t item → item ≡ Some k → ((s : ℕ) → t ≤ s → footprint_there s now ≡ footprint_there s was) → FootprintsStand shards call was →
+    t < shards → Some k.value ≡ footprint_of shards call t
+found-there shards t call was now item k there read is same stand lt =
+    sym (ap (option_map (λ (b : Box Keys). b.value)) is) ∙ ap (option_map (λ (b : Box Keys). b.value)) (get_or_read now t item there read None)
+    ∙ same t (omega arith) ∙ stand.1 t lt
+
+-- what is taken for a shard leaves what is there for the later ones
+pub later-there : (keys : List (Option (Box Keys))) (t : ℕ) (new : Option (Box Keys)) (s : ℕ) → t + 1 ≤ s →
+    footprint_there s (set keys t new) ≡ footprint_there s keys
+later-there keys t new s le = ap (option_map (λ (b : Box Keys). b.value)) (get_or-set_other keys t s new None (λ e. omega (arith, e, le)))
+
+-- where its footprint is there the call names a shard
+pub names-there : (shards s : ℕ) (call : Call) (keys : Keys) → Some keys ≡ footprint_of shards call s → NamesAShard shards call
+names-there shards s call keys there = (s, λ none. false≢true (sym (ap is_some (there ∙ none))))
+
+-- The shards below t were asked for places: v and was are as they were before the first.
+abbrev pub PlacesAsked : BookName → ℕ → ℕ → Call → Caller → Room → Caller → Room → Type 0
+PlacesAsked z n t call v was u now =
+    (u ≡ v) × IsRoom z n now × Asks kinds.Place t now.round
+    × ((s : ℕ) → t ≤ s → footprint_there s now.keys.items ≡ footprint_there s was.keys.items) × (now.plan ≡ was.plan)
+    × ((s : ℕ) → is_asked (place_at s now.round) ≡ true → NamesAShard n call)
 
 -- ---- what was heard
 

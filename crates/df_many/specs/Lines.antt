@@ -1,44 +1,32 @@
 -- What runs a connection's calls of many hops, but for the way to the shards, between its steps.
-use Rattle.std.specs.Prelude.{◌≡◌, ℕ, ◌+◌, ◌<◌, true, Bool, Option, Some, None, List, [], ◌∷◌, length}
-use Rattle.df_model.specs.Reads.{IsLinked}
+use Rattle.std.specs.Prelude.{◌≡◌, ℕ, ◌+◌, ◌<◌, true, false, Bool, Option, Some, None, List, length}
+use Rattle.df_model.specs.Calls.{IsCall}
 use Rattle.df_model.specs.Replies.{encoding_of}
-use Rattle.df_model.specs.declared.command.Command.{Command}
 use Rattle.df_model.specs.declared.command.Call.{Call}
-use Rattle.df_model.specs.declared.command.Call.TheVariants.{Single}
 use Rattle.df_model.specs.declared.reply.Reply.{Reply}
-use Rattle.df_core.specs.Courses.{course_of}
+use Rattle.df_core.specs.History.{NamesAShard}
 use Rattle.df_book.specs.Weights.{Each, count}
 use Rattle.df_book.specs.Logs.{AllBelow}
 use Rattle.df_book.specs.Draws.{Bounded, draws_of, last_number}
-use Rattle.df_book.specs.Passes.{BookName, Caller, after_draw}
+use Rattle.df_book.specs.Passes.{Caller, after_draw}
 use Rattle.df_book.specs.declared.draw.Draw.{Draw}
 use Rattle.df_caller.specs.declared.caller.Went.{Went}
 use Rattle.df_caller.specs.declared.caller.Went.TheVariants as went
-use Rattle.df_rounds.specs.Standing.{Standing, Fresh}
 use Rattle.df_rounds.specs.Progress.{Progress}
 use Rattle.df_rounds.specs.Between.{Between}
 use Rattle.df_post.specs.Postings.{Posting, shards_of}
-use Rattle.df_post.specs.Rounds.{Matches}
+use Rattle.df_post.specs.Rounds.{Matches, place_at}
 use Rattle.df_post.specs.declared.awaited.Kind.TheVariants as kinds
 use Rattle.df_coord.specs.Rows.{CallPassed, CallRan}
 use Rattle.df_exchange.specs.Exchanges.{Exchanging}
-use Rattle.df_turn.specs.Courses.{IsTurned}
-use Rattle.df_turn.specs.Turns.{Asking, IsLent}
-use Rattle.df_many.specs.Rooms.{AllIdle, AllOf, IsRoom}
+use Rattle.df_plan.specs.Plans.{Asks, IsOver, Planned}
+use Rattle.df_many.specs.Rooms.{AllIdle, AllOf, IsRoom, is_asked}
 use Rattle.df_many.specs.declared.line.Line.{Line}
-use Rattle.df_many.specs.declared.room.Room.{Room}
 use Rattle.df_many.specs.declared.state.State.{State}
 use Rattle.df_many.specs.declared.state.State.TheVariants as states
 use Rattle.df_many.specs.declared.state.Turned.{Turned}
 
 -- ---- the call under way
-
--- the call is a single command that asks several shards, or all, round by round
-pub record IsOfTurns (shards : ℕ) (call : Call) : Type 0 where
-  pub command : Command
-  pub is : call ≡ Single command
-  pub linked : IsLinked command
-  pub turned : IsTurned (course_of shards command)
 
 abbrev pub under : State → Option Call
 under states.Idle = None
@@ -59,49 +47,56 @@ pub record Numbered (v u : Caller) (call : Call) (n : ℕ) : Type 0 where
   pub bounded : Bounded v.own v.made v.seen
   pub now : u ≡ after_draw v call n
 
--- a call whose one command stands so
-abbrev pub progress_at : Command → Standing → Progress
-progress_at command standing = record { at = 0; replies = []; left = command ∷ []; standing = standing }
-
 -- it was drawn, and each time before that it ran nothing; its shards were asked for places
 pub record Places (t : Turned) (l : Line) : Type 0 where
-  pub turns : IsOfTurns l.shards t.call.value
+  pub whole : t.slip.value.call ≡ t.call.value
+  pub is_call : IsCall t.call.value
+  pub drawer : Caller
+  pub passed : CallPassed l.shards l.before.value drawer t.call.value
+  pub numbered : Numbered drawer l.pass t.call.value t.number
+  pub planned : Planned l.shards t.call.value l.room.plan t.slip.value.reply
+  pub messages : AllOf kinds.Place l.room.round
+  pub named : (s : ℕ) → is_asked (place_at s l.room.round) ≡ true → NamesAShard l.shards t.call.value
+
+-- it was drawn, and each time before that it ran nothing; it has its places
+pub record MaySetOut (t : Turned) (l : Line) : Type 0 where
   pub whole : t.slip.value.call ≡ t.call.value
   pub drawer : Caller
   pub passed : CallPassed l.shards l.before.value drawer t.call.value
   pub numbered : Numbered drawer l.pass t.call.value t.number
-  pub asking : Asking l.shards 0 turns.command Fresh t.turn
-  pub messages : AllOf kinds.Place l.room.round
+  pub planned : Planned l.shards t.call.value l.room.plan t.slip.value.reply
 
--- it was drawn, and each time before that it ran nothing; it stands so, between two rounds, and asks its shards next
+-- it was drawn, and each time before that it ran nothing; it is so far, between two rounds, and asks its shards next
 pub record MayAsk (t : Turned) (l : Line) : Type 0 where
-  pub turns : IsOfTurns l.shards t.call.value
-  pub standing : Standing
-  -- what is left of the command in the slip
-  pub rest : Command
-  pub holds : t.slip.value.call ≡ Single rest
-  pub lent : IsLent standing turns.command rest
+  pub progress : Progress
+  pub asks : Asks l.shards 0 t.call.value progress l.room.plan t.slip.value
   pub drawer : Caller
   pub passed : CallPassed l.shards l.before.value drawer t.call.value
-  pub asking : Asking l.shards 0 turns.command standing t.turn
-  pub between : Between l.shards drawer t.call.value t.number (progress_at turns.command standing) l.pass
+  pub between : Between l.shards drawer t.call.value t.number progress l.pass
+
+-- and all its commands are over
+pub record IsThrough (t : Turned) (l : Line) : Type 0 where
+  pub progress : Progress
+  pub is_over : IsOver t.call.value progress l.room.plan t.slip.value
+  pub drawer : Caller
+  pub passed : CallPassed l.shards l.before.value drawer t.call.value
+  pub between : Between l.shards drawer t.call.value t.number progress l.pass
+
+abbrev pub GoesOn : Bool → Turned → Line → Type 0
+GoesOn true t l = MayAsk t l
+GoesOn false t l = IsThrough t l
 
 -- it was drawn, and each time before that it ran nothing; its shards were asked for the hops of a round
 pub record Hops (t : Turned) (l : Line) : Type 0 where
-  pub turns : IsOfTurns l.shards t.call.value
-  pub standing : Standing
-  -- what is left of the command in the slip
-  pub rest : Command
-  pub holds : t.slip.value.call ≡ Single rest
-  pub lent : IsLent standing turns.command rest
+  pub progress : Progress
+  pub asks : Asks l.shards l.shards t.call.value progress l.room.plan t.slip.value
   pub drawer : Caller
   pub passed : CallPassed l.shards l.before.value drawer t.call.value
-  pub asking : Asking l.shards l.shards turns.command standing t.turn
-  pub exchanging : Exchanging l.shards l.shards t.number drawer t.call.value (progress_at turns.command standing) l.pass l.room.round
+  pub exchanging : Exchanging l.shards l.shards t.number drawer t.call.value progress l.pass l.room.round
 
 -- the call was begun, and each time that it was drawn it ran nothing
 pub record IsDue (call : Call) (l : Line) : Type 0 where
-  pub turns : IsOfTurns l.shards call
+  pub is_call : IsCall call
   pub passed : CallPassed l.shards l.before.value l.pass call
 
 -- the number is the last that was drawn

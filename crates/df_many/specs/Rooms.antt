@@ -1,13 +1,7 @@
 -- What runs calls of many hops has room for: the messages of one time to all shards, and what came back.
-use Rattle.std.specs.Prelude.{◌≡◌, ℕ, ◌<◌, ◌≤◌, nat_lt, cond, Option, Some, None, List, length, get_or}
-use Rattle.df_model.specs.declared.command.Call.{Call}
-use Rattle.df_model.specs.declared.keys.Keys.{Keys}
-use Rattle.std.specs.Option.{option_map}
-use Rattle.std.specs.Global.{Box}
-use Rattle.df_footprints.specs.Footprints.{footprint_of}
+use Rattle.std.specs.Prelude.{◌≡◌, ℕ, Bool, is_some, Option, Some, None, length}
 use Rattle.df_book.specs.Passes.{BookName}
-use Rattle.df_hops.specs.declared.answer.Outcome.{Outcome}
-use Rattle.df_post.specs.Rounds.{Idle, RoundView, awaited_in, place_at}
+use Rattle.df_post.specs.Rounds.{Place, Idle, RoundView, awaited_in, place_at}
 use Rattle.df_post.specs.declared.awaited.Awaited.{Awaited}
 use Rattle.df_post.specs.declared.awaited.Kind.{Kind}
 use Rattle.df_exchange.specs.Exchanges.{asked_in}
@@ -28,6 +22,10 @@ OfKind kind (Some a) = a.kind ≡ kind
 -- all messages are of this kind
 abbrev pub AllOf : Kind → RoundView → Type 0
 AllOf kind round = (s : ℕ) → OfKind kind (asked_in (place_at s round))
+
+-- a message is in the place, wherever it is by now
+abbrev pub is_asked : Place → Bool
+is_asked place = is_some (asked_in place)
 
 -- what is asked of shard s
 abbrev pub kind_there : Kind → ℕ → RoundView → Type 0

@@ -66,7 +66,7 @@ fn leave_of(
 pub(crate) fn hear_left(room: &mut Room, shards: u32)
     requires places { length room.old.round.places ≡ shards }
     requires done { (s : ℕ) → is_done (place_at s room.old.round) ≡ true }
-    ensures same { (room.new.round.book ≡ room.old.round.book) × (length room.new.round.places ≡ shards) × (room.new.taken ≡ room.old.taken) × (room.new.outcomes ≡ room.old.outcomes) × (room.new.keys ≡ room.old.keys) }
+    ensures same { (room.new.round.book ≡ room.old.round.book) × (length room.new.round.places ≡ shards) × (room.new.taken ≡ room.old.taken) × (room.new.outcomes ≡ room.old.outcomes) × (room.new.keys ≡ room.old.keys) × (room.new.plan ≡ room.old.plan) }
     ensures idle { AllIdle room.new.round }
     ensures way { SameWay room.old.round room.new.round }
 {

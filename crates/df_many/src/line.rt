@@ -3,45 +3,38 @@
 //!     state         of the call under way                                     next
 //!     Idle          there is none
 //!     Due           its number is to be drawn                                 Placing
-//!     Placing       its shards were asked for places                          Hopping, or Withdrawing
+//!     Placing       its shards were asked for places                          Hopping, Leaving, or Withdrawing
 //!     Withdrawing   those that gave one were asked to let go                  Due, or the end
 //!     Hopping       its shards were asked for the hops of a round             Hopping, or Leaving
 //!     Leaving       it ran, and its shards were asked to let go               the end
 //!
 //! What if a lower number comes too late? A shard refuses it; the call lets go of its other places, and draws again.
 //! What if there is no memory? Before the draw: nothing was done. At a place: the call lets go of the others, and nothing
-//! was done. At a hop: the command's rounds say what follows, and its reply that there was no memory.
+//! was done. At a hop: the command's rounds say what follows, and its reply that there was no memory. At the reply of an
+//! EXEC: its other commands run, and nothing is said.
 
-ghost use Rattle.std.specs.Prelude.{◌≡◌, ◌<◌, ℕ, true, is_some, Some, length, IfOk, OnOk};
-ghost use Rattle.df_model.specs.declared.command.Command.{Command};
-ghost use Rattle.df_model.specs.declared.command.Call.TheVariants.{Single};
-ghost use Rattle.df_footprints.specs.Footprints.{footprint_of};
+ghost use Rattle.std.specs.Prelude.{◌≡◌, ◌<◌, ℕ, true, is_some, Some};
 ghost use Rattle.df_caller.specs.Calling.{Rose};
 ghost use Rattle.df_caller.specs.declared.caller.Went.TheVariants as went;
-ghost use Rattle.df_log.specs.Acts.{Told};
-ghost use Rattle.df_rounds.specs.Standing.{Fresh, Standing, then_told};
+ghost use Rattle.df_keys.specs.Asked.{FootprintsStand};
 ghost use Rattle.df_post.specs.Rounds.{is_done, place_at};
 ghost use Rattle.df_post.specs.declared.awaited.Kind.TheVariants as kinds;
-ghost use Rattle.df_turn.specs.Asked.{footprint_there};
-ghost use Rattle.df_turn.specs.Turns.{Asking, IsAnswered, WentOn};
+ghost use Rattle.df_plan.specs.Plans.{Planned};
 ghost use Rattle.df_many.specs.Rooms.{AllOf, IsRoom, SameWay};
-ghost use Rattle.df_many.specs.Lines.{HasRun, Holds, IsDue, IsLast, IsOfTurns, MayAsk, SameLine, Stepped, under};
+ghost use Rattle.df_many.specs.Lines.{GoesOn, HasRun, Holds, IsDue, IsLast, MayAsk, MaySetOut, SameLine, Stepped, under};
 ghost use Rattle.df_many.specs.declared.state.State.TheVariants as states;
 
 use crate::hops::{ask_hops, hear_hops};
 use crate::leaving::{ask_to_leave, hear_left};
-use crate::places::{Placed, ask_places, find_keys, hear_places};
+use crate::places::{Placed, ask_places, hear_places};
 use crate::room::Room;
 use crate::state::{State, Turned};
-use df_book::{Book, CallerPass};
+use df_book::{Book, CallerPass, Witness};
 use df_caller::{Slip, Went};
-use df_hops::Outcome;
-use df_model::{Call, Keys, NoMemory};
+use df_model::Call;
 use df_rounds::draw_call;
-use df_turn::{Next, Turn};
 use std::alloc::Global;
 use std::mem;
-use std::snapshot::Snapshot;
 
 /// Between two steps `Holds` is true of it (specs/Lines).
 #[derive(Drop)]
@@ -54,7 +47,7 @@ pub struct Line<'a> {
     pub(crate) pass: CallerPass,
     pub(crate) state: State,
     /// The pass when the call under way began, for clauses alone.
-    pub(crate) before: Snapshot<CallerPass>,
+    pub(crate) before: Witness<CallerPass>,
     pub(crate) room: Room,
     /// How often a step had to wait, at most 2^64 - 1.
     pub(crate) stalls: u64,
@@ -95,26 +88,28 @@ impl<'a> Line<'a> {
         if self.book.left(&self.pass) == 0 {
             return Went::Spent(slip);
         }
-        match prepare(self.alloc, self.shards, &slip.call, &mut self.room.keys) {
-            Ok(turn) => self.draw(slip, turn),
+        let mut slip = slip;
+        let Room { plan, keys, .. } = &mut self.room;
+        match plan.prepare(self.alloc, self.shards, &mut slip, keys) {
+            Ok(()) => self.draw(slip),
             Err(_) => Went::NoMemory(slip),
         }
     }
 
     /// Draws the call's number, and asks for its places.
-    fn draw(&mut self, slip: Box<Slip>, turn: Turn) -> Went
+    fn draw(&mut self, slip: Box<Slip>) -> Went
         requires holds { Holds (states.Due slip) self.old }
         requires taken { self.old.state ≡ states.Idle }
         requires left { 0 < self.old.pass.budget }
-        requires keys { (s : ℕ) → s < self.old.shards → footprint_there s self.old.room.keys.items ≡ footprint_of self.old.shards slip.value.call s }
-        requires turn { (command : Command) → slip.value.call ≡ Single command → Asking self.old.shards 0 command Fresh turn }
+        requires keys { FootprintsStand self.old.shards slip.value.call self.old.room.keys.items }
+        requires planned { Planned self.old.shards slip.value.call self.old.room.plan slip.value.reply }
         ensures holds { Holds self.new.state self.new }
         ensures under { under self.new.state ≡ Some slip.value.call }
         ensures waits { (result ≡ went.Pending) × Rose self.old.stalls self.new.stalls }
         ensures same { SameLine self.old self.new }
         ensures way { SameWay self.old.room.round self.new.room.round }
     {
-        let call = Snapshot::of(&slip.call);
+        let call = Witness::of(&slip.call);
         let number = draw_call(self.book, &mut self.pass, &slip.call);
         ask_places(
             self.book,
@@ -124,12 +119,7 @@ impl<'a> Line<'a> {
             self.conn,
             number,
         );
-        self.state = State::Placing(Turned {
-            slip,
-            number,
-            call,
-            turn,
-        });
+        self.state = State::Placing(Turned { slip, number, call });
         self.pend()
     }
 
@@ -145,10 +135,48 @@ impl<'a> Line<'a> {
         ensures way { SameWay self.old.room.round self.new.room.round }
     {
         match hear_places(&mut self.room, self.shards) {
-            Placed::Everywhere => self.ask(turned),
+            Placed::Everywhere => self.set_out(turned),
             Placed::Refused => self.withdraw(turned.slip, turned.number, true),
             Placed::NoMemory => self.withdraw(turned.slip, turned.number, false),
         }
+    }
+
+    /// Its first commands begin: it asks for its first hops, or is over.
+    fn set_out(&mut self, turned: Turned) -> Went
+        requires holds { Holds states.Idle self.old }
+        requires taken { self.old.state ≡ states.Idle }
+        requires may { MaySetOut turned self.old }
+        ensures holds { Holds self.new.state self.new }
+        ensures under { under self.new.state ≡ Some turned.call.value }
+        ensures waits { (result ≡ went.Pending) × Rose self.old.stalls self.new.stalls }
+        ensures same { SameLine self.old self.new }
+        ensures way { SameWay self.old.room.round self.new.room.round }
+    {
+        let mut turned = turned;
+        let asks = self
+            .room
+            .plan
+            .set_out(self.alloc, self.shards, &mut turned.slip);
+        self.go_by(turned, asks)
+    }
+
+    /// Asks for the hops that come next, or lets go of the places of a call that is over.
+    fn go_by(&mut self, turned: Turned, asks: bool) -> Went
+        requires holds { Holds states.Idle self.old }
+        requires taken { self.old.state ≡ states.Idle }
+        requires goes { GoesOn asks turned self.old }
+        ensures holds { Holds self.new.state self.new }
+        ensures under { under self.new.state ≡ Some turned.call.value }
+        ensures waits { (result ≡ went.Pending) × Rose self.old.stalls self.new.stalls }
+        ensures same { SameLine self.old self.new }
+        ensures way { SameWay self.old.room.round self.new.room.round }
+    {
+        if asks {
+            return self.ask(turned);
+        }
+        let Turned { slip, number, call } = turned;
+        let said = self.room.plan.said();
+        self.leave(slip, number, said, call)
     }
 
     /// Lets go of the places that the call was given: to be drawn again, or else for want of memory.
@@ -197,7 +225,6 @@ impl<'a> Line<'a> {
         ensures same { SameLine self.old self.new }
         ensures way { SameWay self.old.room.round self.new.room.round }
     {
-        let mut turned = turned;
         ask_hops(
             self.book,
             &mut self.pass,
@@ -205,7 +232,6 @@ impl<'a> Line<'a> {
             self.shards,
             self.conn,
             turned.number,
-            &mut turned.turn,
         );
         self.state = State::Hopping(turned);
         self.pend()
@@ -223,38 +249,14 @@ impl<'a> Line<'a> {
         ensures way { SameWay self.old.room.round self.new.room.round }
     {
         hear_hops(self.book, &mut self.pass, &mut self.room, self.shards);
-        let Turned {
-            slip,
-            number,
-            call,
-            turn,
-        } = turned;
-        let mut slip = slip;
-        let mut turn = turn;
-        let next = turn_on(
-            self.alloc,
-            self.shards,
-            &mut turn,
-            &mut slip.call,
-            &mut self.room.outcomes,
-        );
-        match next {
-            Next::Asks => self.ask(Turned {
-                slip,
-                number,
-                call,
-                turn,
-            }),
-            Next::Over(reply) => {
-                slip.reply = reply;
-                self.leave(slip, number, true, call)
-            }
-            Next::Unsaid => self.leave(slip, number, false, call),
-        }
+        let mut turned = turned;
+        let Room { plan, outcomes, .. } = &mut self.room;
+        let asks = plan.go_on(self.alloc, self.shards, &mut turned.slip, outcomes);
+        self.go_by(turned, asks)
     }
 
     /// Lets go of the places of a call that ran.
-    fn leave(&mut self, slip: Box<Slip>, number: u64, said: bool, call: Snapshot<Call>) -> Went
+    fn leave(&mut self, slip: Box<Slip>, number: u64, said: bool, call: Witness<Call>) -> Went
         requires holds { Holds states.Idle self.old }
         requires taken { self.old.state ≡ states.Idle }
         requires ran { HasRun call.value said slip.value.reply self.old }
@@ -271,7 +273,7 @@ impl<'a> Line<'a> {
     }
 
     /// The places are given back, and the call has ended.
-    fn left(&mut self, slip: Box<Slip>, said: bool, call: Snapshot<Call>) -> Went
+    fn left(&mut self, slip: Box<Slip>, said: bool, call: Witness<Call>) -> Went
         requires holds { Holds (states.Leaving slip said call) self.old }
         requires taken { self.old.state ≡ states.Idle }
         requires done { (s : ℕ) → is_done (place_at s self.old.room.round) ≡ true }
@@ -316,44 +318,5 @@ impl<'a> Line<'a> {
     {
         self.stalls = self.stalls.saturating_add(1);
         Went::Pending
-    }
-}
-
-/// Takes the memory of a call: what it asks for on each shard, and its first messages.
-fn prepare(
-    alloc: Global,
-    shards: u32,
-    call: &Call,
-    keys: &mut Vec<Option<Box<Keys>>>,
-) -> Result<Turn, NoMemory>
-    requires some { 0 < shards }
-    requires turns { IsOfTurns shards call.now }
-    requires room { length keys.old.items ≡ shards }
-    ensures room { length keys.new.items ≡ shards }
-    ensures keys { OnOk result ((s : ℕ) → s < shards → footprint_there s keys.new.items ≡ footprint_of shards call.now s) }
-    ensures turn { IfOk result (λ turn. (command : Command) → call.now ≡ Single command → Asking shards 0 command Fresh turn) }
-{
-    find_keys(alloc, call, shards, keys)?;
-    match call {
-        Call::Single(command) => Turn::new(alloc, shards, command, keys.as_slice()),
-        Call::Exec(_) => unreachable!(),
-    }
-}
-
-/// Goes on with the command of the call by the answers of a round.
-fn turn_on(
-    alloc: Global,
-    shards: u32,
-    turn: &mut Turn,
-    call: &mut Call,
-    outcomes: &mut Vec<Option<Outcome>>,
-) -> Next
-    requires answered { (asked : Command) × (rest : Command) × (standing : Standing) × (told : ℕ → Told) × (call.old ≡ Single rest) × IsAnswered shards asked standing told turn.old rest outcomes.old.items }
-    ensures went { (asked : Command) (rest : Command) (standing : Standing) (told : ℕ → Told) → call.old ≡ Single rest → IsAnswered shards asked standing told turn.old rest outcomes.old.items → WentOn result shards asked (then_told told standing) turn.new outcomes.new.items }
-    ensures single { (rest : Command) × (call.new ≡ Single rest) }
-{
-    match call {
-        Call::Single(command) => turn.go_on(alloc, shards, command, outcomes),
-        Call::Exec(_) => unreachable!(),
     }
 }

@@ -1,23 +1,23 @@
-//! What runs a connection's calls of many hops, one after the other.
+//! What runs a connection's calls of any number of hops, one after the other.
 
 ghost use Rattle.std.specs.Prelude.{◌≡◌, ◌+◌, ◌<◌, true, is_some, None, Some};
+ghost use Rattle.df_model.specs.Calls.{IsCall};
 ghost use Rattle.df_book.specs.Draws.{Bounded};
 ghost use Rattle.df_caller.specs.Calling.{Rose};
 ghost use Rattle.df_caller.specs.declared.caller.Went.TheVariants as went;
 ghost use Rattle.df_post.specs.Postings.{IsIdle, shards_of};
 ghost use Rattle.df_many.specs.Rooms.{AllIdle, IsRoom};
-ghost use Rattle.df_many.specs.Lines.{HasPost, Holds, IsOfTurns, SameLine, Stepped, under};
+ghost use Rattle.df_many.specs.Lines.{HasPost, Holds, SameLine, Stepped, under};
 
 use crate::line::Line;
 use crate::room::Room;
 use crate::state::State;
-use df_book::{Book, CallerPass};
+use df_book::{Book, CallerPass, Witness};
 use df_caller::{Slip, Went};
 use df_post::Post;
 use std::alloc::Global;
-use std::snapshot::Snapshot;
 
-/// Runs calls of many hops over shards. Between its steps `Holds` and `HasPost` are true of it (specs/Lines).
+/// Runs calls over shards, of as many hops as they need. Between its steps `Holds` and `HasPost` are true of it (specs/Lines).
 #[derive(Drop)]
 pub struct ManyHops<'a, P> {
     line: Line<'a>,
@@ -45,9 +45,9 @@ impl<'a, P: Post> ManyHops<'a, P> {
         requires post { ((P.posting post).book ≡ book.now) × (shards_of (P.posting post) ≡ shards) }
         ensures holds { Holds result.line.state result.line × HasPost result.line (P.posting result.post) }
         ensures idle { under result.line.state ≡ None }
-        ensures same { (result.line.pass ≡ pass) × (result.post ≡ post) × (result.line.shards ≡ shards) }
+        ensures same { (result.line.pass ≡ pass) × (result.post ≡ post) × (result.line.shards ≡ shards) × (result.line.book.now ≡ book.now) }
     {
-        let before = Snapshot::of(&pass);
+        let before = Witness::of(&pass);
         let line = Line {
             alloc,
             book,
@@ -66,13 +66,13 @@ impl<'a, P: Post> ManyHops<'a, P> {
     pub fn begin(&mut self, slip: Box<Slip>)
         requires holds { Holds self.old.line.state self.old.line × HasPost self.old.line (P.posting self.old.post) }
         requires idle { under self.old.line.state ≡ None }
-        requires call { IsOfTurns self.old.line.shards slip.value.call }
+        requires call { IsCall slip.value.call }
         ensures holds { Holds self.new.line.state self.new.line × HasPost self.new.line (P.posting self.new.post) }
         ensures begun { under self.new.line.state ≡ Some slip.value.call }
         ensures before { self.new.line.before.value ≡ self.old.line.pass }
-        ensures same { (self.new.line.pass ≡ self.old.line.pass) × (self.new.post ≡ self.old.post) × (self.new.line.shards ≡ self.old.line.shards) × (self.new.line.stalls ≡ self.old.line.stalls) }
+        ensures same { (self.new.line.pass ≡ self.old.line.pass) × (self.new.post ≡ self.old.post) × (self.new.line.shards ≡ self.old.line.shards) × (self.new.line.book.now ≡ self.old.line.book.now) × (self.new.line.stalls ≡ self.old.line.stalls) }
     {
-        self.line.before = Snapshot::of(&self.line.pass);
+        self.line.before = Witness::of(&self.line.pass);
         self.line.state = State::Due(slip);
     }
 
@@ -91,6 +91,13 @@ impl<'a, P: Post> ManyHops<'a, P> {
         let went = self.line.go_on();
         let _all = self.line.room.round.go(&mut self.post);
         went
+    }
+
+    /// The pass as it is.
+    pub fn pass(&self) -> &CallerPass
+        ensures { result.now ≡ self.now.line.pass }
+    {
+        &self.line.pass
     }
 
     /// The pass, the room and the way to the shards, where no call is under way.

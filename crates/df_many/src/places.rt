@@ -1,20 +1,17 @@
 //! How a call takes its places: each shard is asked for what the call needs there.
 
-ghost use Rattle.std.specs.Prelude.{◌≡◌, ◌+◌, ◌<◌, ℕ, length, set, true, IfOk, OnOk};
-ghost use Rattle.std.specs.Option.{option_map};
-ghost use Rattle.df_footprints.specs.Footprints.{footprint_of};
+ghost use Rattle.std.specs.Prelude.{◌≡◌, ◌≢◌, ◌⊎◌, ◌+◌, ◌<◌, ℕ, length, set, true};
+ghost use Rattle.df_core.specs.History.{NamesAShard};
 ghost use Rattle.df_book.specs.Draws.{call_at, draws_of, last_number};
 ghost use Rattle.df_post.specs.Rounds.{Idle, is_done, place_at};
 ghost use Rattle.df_post.specs.declared.awaited.Kind.TheVariants as kinds;
-ghost use Rattle.df_many.specs.Rooms.{AllIdle, AllOf, IsRoom, SameWay, kind_there};
-ghost use Rattle.df_turn.specs.Asked.{footprint_there};
+ghost use Rattle.df_many.specs.Rooms.{AllIdle, AllOf, IsRoom, SameWay, is_asked, kind_there};
+ghost use Rattle.df_many.specs.declared.places.Placed.TheVariants as places;
+ghost use Rattle.df_keys.specs.Asked.{FootprintsStand};
 
 use crate::room::Room;
 use df_book::{Book, CallerPass};
-use df_footprints::footprint;
 use df_hops::{AnswerBody, schedule};
-use df_model::{Call, Keys, NoMemory};
-use std::alloc::Global;
 
 /// What the shards answered to who asked for places.
 #[derive(Clone, Copy, Debug, PartialEq, Eq)]
@@ -24,33 +21,6 @@ pub(crate) enum Placed {
     Refused,
     /// A shard found no memory.
     NoMemory,
-}
-
-/// Finds what the call asks for on each shard.
-pub(crate) fn find_keys(
-    alloc: Global,
-    call: &Call,
-    shards: u32,
-    keys: &mut Vec<Option<Box<Keys>>>,
-) -> Result<(), NoMemory>
-    requires some { 0 < shards }
-    requires room { length keys.old.items ≡ shards }
-    ensures room { length keys.new.items ≡ shards }
-    ensures found { OnOk result ((s : ℕ) → s < shards → footprint_there s keys.new.items ≡ footprint_of shards call.now s) }
-{
-    'shards: for shard in 0..shards {
-        keys[shard as usize] = boxed(alloc, footprint(alloc, call, shard, shards)?)?;
-    }
-    Ok(())
-}
-
-fn boxed(alloc: Global, keys: Option<Keys>) -> Result<Option<Box<Keys>>, NoMemory>
-    ensures { IfOk result (λ boxed. option_map (λ k. k.value) boxed ≡ keys) }
-{
-    match keys {
-        Some(keys) => Ok(Some(Box::new(alloc, keys)?)),
-        None => Ok(None),
-    }
 }
 
 /// Asks each shard for what the call needs there. Takes no memory.
@@ -67,10 +37,12 @@ pub(crate) fn ask_places(
     requires idle { AllIdle room.old.round }
     requires drawn { (0 < length pass.old.own) × (0 < draws_of number pass.old.own) }
     requires last { last_number pass.old.own ≡ number }
-    requires keys { (s : ℕ) → s < shards → footprint_there s room.old.keys.items ≡ footprint_of shards (call_at pass.old.own number) s }
+    requires keys { FootprintsStand shards (call_at pass.old.own number) room.old.keys.items }
     ensures pass { pass.new ≡ pass.old }
     ensures room { IsRoom book.now shards room.new }
+    ensures plan { room.new.plan ≡ room.old.plan }
     ensures asked { AllOf kinds.Place room.new.round }
+    ensures named { (s : ℕ) → is_asked (place_at s room.new.round) ≡ true → NamesAShard shards (call_at pass.old.own number) }
     ensures way { SameWay room.old.round room.new.round }
 {
     'shards: for shard in 0..shards {
@@ -87,8 +59,9 @@ pub(crate) fn hear_places(room: &mut Room, shards: u32) -> Placed
     requires taken { length room.old.taken.items ≡ shards }
     requires asked { AllOf kinds.Place room.old.round }
     requires done { (s : ℕ) → is_done (place_at s room.old.round) ≡ true }
-    ensures same { (room.new.round.book ≡ room.old.round.book) × (length room.new.round.places ≡ shards) × (length room.new.taken.items ≡ shards) × (room.new.outcomes ≡ room.old.outcomes) × (room.new.keys ≡ room.old.keys) }
+    ensures same { (room.new.round.book ≡ room.old.round.book) × (length room.new.round.places ≡ shards) × (length room.new.taken.items ≡ shards) × (room.new.outcomes ≡ room.old.outcomes) × (room.new.keys ≡ room.old.keys) × (room.new.plan ≡ room.old.plan) }
     ensures idle { AllIdle room.new.round }
+    ensures told { result ≢ places.Everywhere → (s : ℕ) × (is_asked (place_at s room.old.round) ≡ true) }
     ensures way { SameWay room.old.round room.new.round }
 {
     let mut placed = Placed::Everywhere;
@@ -105,7 +78,8 @@ fn hear_place(room: &mut Room, shard: u32) -> Placed
     requires asked { kind_there kinds.Place shard room.old.round }
     requires done { is_done (place_at shard room.old.round) ≡ true }
     ensures round { room.new.round ≡ record room.old.round { places = set room.old.round.places shard Idle } }
-    ensures same { (length room.new.taken.items ≡ length room.old.taken.items) × (room.new.outcomes ≡ room.old.outcomes) × (room.new.keys ≡ room.old.keys) }
+    ensures told { result ≢ places.Everywhere → is_asked (place_at shard room.old.round) ≡ true }
+    ensures same { (length room.new.taken.items ≡ length room.old.taken.items) × (room.new.outcomes ≡ room.old.outcomes) × (room.new.keys ≡ room.old.keys) × (room.new.plan ≡ room.old.plan) }
 {
     room.taken[shard as usize] = false;
     let Some(answer) = room.round.take(shard) else {
@@ -127,7 +101,9 @@ fn hear_place(room: &mut Room, shard: u32) -> Placed
     }
 }
 
-fn worse(one: Placed, other: Placed) -> Placed {
+fn worse(one: Placed, other: Placed) -> Placed
+    ensures { (result ≡ one) ⊎ (result ≡ other) }
+{
     match one {
         Placed::NoMemory => Placed::NoMemory,
         Placed::Everywhere => other,

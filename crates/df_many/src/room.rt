@@ -1,4 +1,4 @@
-//! Room for what a call asks of all shards at one time, used again by the next one.
+//! Room for what a call asks of all shards at one time, and for its commands, used again by the next one.
 
 ghost use Rattle.std.specs.Prelude.{◌≡◌, length, IfOk};
 ghost use Rattle.df_many.specs.Rooms.{AllIdle, IsRoom};
@@ -7,10 +7,11 @@ ghost use Rattle.df_turn.specs.Turns.{IsClear};
 use df_book::Book;
 use df_hops::Outcome;
 use df_model::{Keys, NoMemory};
+use df_plan::Plan;
 use df_post::Round;
 use std::alloc::Global;
 
-/// A place for each shard, in each of these.
+/// A place for each shard, in each of the lists.
 #[derive(Drop)]
 pub struct Room {
     pub(crate) round: Round,
@@ -19,6 +20,8 @@ pub struct Room {
     pub(crate) taken: Vec<bool>,
     /// What the call under way asks for.
     pub(crate) keys: Vec<Option<Box<Keys>>>,
+    /// Its commands.
+    pub(crate) plan: Plan,
 }
 
 impl Room {
@@ -32,6 +35,7 @@ impl Room {
             outcomes: no_outcomes(alloc, shards)?,
             taken: none_taken(alloc, shards)?,
             keys: no_keys(alloc, shards)?,
+            plan: Plan::new(alloc),
         })
     }
 }

@@ -1,18 +1,16 @@
 //! Where a call of many hops stands.
 
+use df_book::Witness;
 use df_caller::Slip;
 use df_model::Call;
-use df_turn::Turn;
-use std::snapshot::Snapshot;
 
-/// A call that was drawn, and its command round by round.
+/// A call that was drawn.
 #[derive(Drop)]
 pub struct Turned {
     pub slip: Box<Slip>,
     pub number: u64,
     /// What was drawn: of the slip's call some may be used already.
-    pub call: Snapshot<Call>,
-    pub turn: Turn,
+    pub call: Witness<Call>,
 }
 
 /// Where the call under way stands.
@@ -29,5 +27,5 @@ pub enum State {
     /// It asked its shards for the hops of a round.
     Hopping(Turned),
     /// It ran, and lets go of its places: whether its reply lies in the slip.
-    Leaving(Box<Slip>, bool, Snapshot<Call>),
+    Leaving(Box<Slip>, bool, Witness<Call>),
 }

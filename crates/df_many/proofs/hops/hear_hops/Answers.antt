@@ -1,12 +1,9 @@
-use Rattle.std.proofs.Common.{◌≡◌, ◌∙◌, ℕ, ap, sym, refl, subst, arith, length}
+use Rattle.std.proofs.Common.{◌≡◌, ◌∙◌, ℕ, sym, refl, subst, arith}
 use Rattle.std.proofs.lemmas.List.{length-set}
-use Rattle.df_book.specs.Passes.{Caller}
-use Rattle.df_post.specs.Rounds.{RoundView, awaited_in, place_at}
+use Rattle.df_post.specs.Rounds.{place_at}
 use Rattle.df_exchange.specs.Exchanges.{Hearing}
 use Rattle.df_exchange.proofs.AskLaws.{hearings_begin}
 use Rattle.df_exchange.proofs.HearLaws.{answers_are_of_hops}
-use Rattle.df_many.specs.Rooms.{SameWay}
-use Rattle.df_many.specs.Lines.{progress_at}
 use Rattle.df_many.proofs.RoomLaws.{done-awaits}
 use Rattle.df_many.proofs.HopLaws.{hearing-awaits}
 use Rattle.df_many.proofs.hops.hear_hops.Goals as goal
@@ -21,8 +18,9 @@ shards-init c = (
   c.requires.room.clear.0,
   refl,
   refl,
-  λ n drawer call command standing x.
-      hearings_begin c.args.shards n drawer call (progress_at command standing) c.args.pass.now c.args.room.now.round c.args.room.now.outcomes.items
+  refl,
+  λ n drawer call progress x.
+      hearings_begin c.args.shards n drawer call progress c.args.pass.now c.args.room.now.round c.args.room.now.outcomes.items
       x c.requires.done c.requires.room.clear.0 c.requires.room.clear.1,
 )
 
@@ -31,8 +29,8 @@ hear-outcome-requires c =
     let h = c.shards.invariant in let g = c.requires.hops in record {
       book = (h.0 ∙ c.requires.book.0, h.3);
       there = omega (arith, h.4, c.shards-test.true);
-      hops = answers_are_of_hops c.args.shards c.shards.shard g.0 g.1 g.2 (progress_at g.3 g.4) c.shards.pass c.shards.room.round c.shards.room.outcomes.items
-          c.shards.shard (h.8 g.0 g.1 g.2 g.3 g.4 g.5);
+      hops = answers_are_of_hops c.args.shards c.shards.shard g.0 g.1 g.2 g.3 c.shards.pass c.shards.room.round c.shards.room.outcomes.items
+          c.shards.shard (h.9 g.0 g.1 g.2 g.3 g.4);
     }
 
 pub shards-preserved : goal.shards-preserved
@@ -46,25 +44,26 @@ shards-preserved c =
       length-set c.shards.room.outcomes.items t c.hear-outcome.result ∙ h.5,
       h.6,
       h.7,
-      λ n drawer call command standing x.
-          e.heard c.args.shards n drawer call (progress_at command standing) c.shards.room.outcomes.items c.requires.some c.requires.book.1
-          (h.8 n drawer call command standing x) c.shards-test.true,
+      h.8,
+      λ n drawer call progress x.
+          e.heard c.args.shards n drawer call progress c.shards.room.outcomes.items c.requires.some c.requires.book.1
+          (h.9 n drawer call progress x) c.shards-test.true,
     )
 
 pub returns : goal.returns
 returns c =
     let h = c.shards.invariant in let g = c.requires.hops in let all : c.shards.shard ≡ c.args.shards = omega (arith, c.shards-test.false, c.shards.auto.shard-end) in
-    let now = h.8 g.0 g.1 g.2 g.3 g.4 g.5 in record {
+    let now = h.9 g.0 g.1 g.2 g.3 g.4 in record {
       same = (h.0, h.1, h.2);
-      room = (h.3, h.4, h.5, h.6, h.7);
+      room = (h.3, h.4, h.5, h.6, h.7, h.8);
       way = record {
         book = h.3 ∙ sym c.requires.room.book;
         places = h.4 ∙ sym c.requires.room.places;
         awaits = λ s.
-            hearing-awaits c.args.shards c.shards.shard g.0 g.1 g.2 g.3 g.4 c.shards.pass c.shards.room.round c.shards.room.outcomes.items now s
+            hearing-awaits c.args.shards c.shards.shard g.0 g.1 g.2 g.3 c.shards.pass c.shards.room.round c.shards.room.outcomes.items now s
             ∙ sym (done-awaits (place_at s c.args.room.now.round) (c.requires.done s));
       };
-      heard = λ n drawer call command standing x.
-          subst (λ t. Hearing c.args.shards t n drawer call (progress_at command standing) c.shards.pass c.shards.room.round c.shards.room.outcomes.items) all
-          (h.8 n drawer call command standing x);
+      heard = λ n drawer call progress x.
+          subst (λ t. Hearing c.args.shards t n drawer call progress c.shards.pass c.shards.room.round c.shards.room.outcomes.items) all
+          (h.9 n drawer call progress x);
     }

@@ -1,4 +1,3 @@
-use Rattle.std.proofs.Common.{◌≡◌, length}
 use Rattle.df_turn.specs.Turns.{IsClear}
 use Rattle.df_many.proofs.room.no_outcomes.Given as goal
 

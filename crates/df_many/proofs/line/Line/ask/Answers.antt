@@ -1,8 +1,6 @@
-use Rattle.std.proofs.Common.{◌∙◌, ap, sym, subst}
-use Rattle.df_book.specs.Draws.{Bounded}
-use Rattle.df_book.specs.Passes.{Caller}
+use Rattle.std.proofs.Common.{◌∙◌, sym, subst}
 use Rattle.df_exchange.proofs.AskLaws.{exchanges_begin}
-use Rattle.df_many.specs.Lines.{Holds, progress_at}
+use Rattle.df_many.specs.Lines.{Holds}
 use Rattle.df_many.specs.declared.line.Line.{Line}
 use Rattle.df_many.proofs.line.Line.ask.Goals as goal
 
@@ -11,17 +9,17 @@ ask_hops-requires-clause-goes c =
     let o = c.args.self.now in let h = c.requires.holds in let m = c.requires.may in let t = c.args.turned in (
       m.drawer,
       t.call.value,
-      m.turns.command,
-      m.standing,
-      exchanges_begin o.shards t.number m.drawer t.call.value (progress_at m.turns.command m.standing) o.pass o.room.round m.between h.room.places h.stands,
-      m.asking,
+      m.progress,
+      t.slip.value,
+      exchanges_begin o.shards t.number m.drawer t.call.value m.progress o.pass o.room.round m.between h.room.places h.stands,
+      m.asks,
     )
 
 pub returns-clause-holds : goal.returns-clause-holds
 returns-clause-holds c =
     let o = c.args.self.now in let h = c.requires.holds in let m = c.requires.may in let t = c.args.turned in let e = c.ask_hops.ensures in
-    let begun = exchanges_begin o.shards t.number m.drawer t.call.value (progress_at m.turns.command m.standing) o.pass o.room.round m.between h.room.places h.stands in
-    let asked = e.asked m.drawer t.call.value m.turns.command m.standing begun m.asking in
+    let begun = exchanges_begin o.shards t.number m.drawer t.call.value m.progress o.pass o.room.round m.between h.room.places h.stands in
+    let asked = e.asked m.drawer t.call.value m.progress t.slip.value begun m.asks in
     subst (λ (x : Line). Holds x.state x) (sym c.pend.ensures.same) (record {
       some = h.some;
       words = h.words;
@@ -30,14 +28,10 @@ returns-clause-holds c =
       bounded = asked.0.underway.bounded;
       room = e.room;
       stands = record {
-        turns = m.turns;
-        standing = m.standing;
-        rest = m.rest;
-        holds = m.holds;
-        lent = m.lent;
+        progress = m.progress;
+        asks = asked.1;
         drawer = m.drawer;
         passed = m.passed;
-        asking = asked.1;
         exchanging = asked.0;
       };
     })

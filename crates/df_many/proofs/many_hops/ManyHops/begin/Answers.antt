@@ -7,7 +7,7 @@ use Rattle.df_many.proofs.many_hops.ManyHops.begin.Goals as goal
 
 pub returns-clause-holds : goal.returns-clause-holds
 returns-clause-holds g c =
-    let o = c.args.self.now.line in let h = c.requires.holds.0 in let p = c.requires.holds.1 in let k = c.requires.call in (
+    let o = c.args.self.now.line in let h = c.requires.holds.0 in let p = c.requires.holds.1 in (
       record {
         some = h.some;
         words = h.words;
@@ -18,8 +18,8 @@ returns-clause-holds g c =
         stands = (
           idle-so o.state o c.requires.idle h.stands,
           record {
-            turns = record { command = k.command; is = k.is; linked = k.linked; turned = k.turned };
-            passed = subst (λ (v : Caller). CallPassed o.shards v o.pass c.args.slip.value.call) (sym c.of.ensures) (passed-none o.shards o.pass c.args.slip.value.call h.bounded);
+            is_call = c.requires.call;
+            passed = subst (λ (v : Caller). CallPassed o.shards v o.pass c.args.slip.value.call) (sym c.of-self.ensures) (passed-none o.shards o.pass c.args.slip.value.call h.bounded);
           },
         );
       },
