@@ -1,7 +1,7 @@
 //! The numbers that were drawn for a connection's calls, each with what came of it, which only clauses see: of any
 //! length, in no memory.
 
-ghost use Rattle.std.specs.Prelude.{◌≡◌, List};
+ghost use Rattle.std.specs.Prelude.{◌≡◌, [], List};
 ghost use Rattle.std.specs.Borrow.{ftrue};
 ghost use Rattle.std.specs.Coded.{codes};
 ghost use Rattle.df_model.specs.contracts.reply.Reply as reply;
@@ -30,5 +30,12 @@ impl Rows {
         ensures { result.rows ≡ these }
     {
         Rows {}
+    }
+
+    /// None.
+    pub fn none() -> Rows
+        ensures { result.rows ≡ [] }
+    {
+        Rows::of()
     }
 }
