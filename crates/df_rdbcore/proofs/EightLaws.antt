@@ -47,7 +47,7 @@ shifted-xor a b =
     ∙ crossed (a / 2) (b / 2) (taken (a % 2)) (taken (b % 2))
     ∙ ap₂ bit_xor (sym (shifted_is a)) (sym (shifted_is b))
 
-shifts-xor : (n a b : ℕ) → shifts n (bit_xor a b) ≡ bit_xor (shifts n a) (shifts n b)
+pub shifts-xor : (n a b : ℕ) → shifts n (bit_xor a b) ≡ bit_xor (shifts n a) (shifts n b)
 unfolding shifts
 shifts-xor zero a b = refl
 shifts-xor (suc n) a b = ap (shifts n) (shifted-xor a b) ∙ shifts-xor n (shifted a) (shifted b)

@@ -1,6 +1,7 @@
 pub mod CrcLaws
 pub mod TableLaws
 pub mod EightLaws
+pub mod RowLaws
 pub mod TextLaws
 pub mod PartLaws
 pub mod FileLaws

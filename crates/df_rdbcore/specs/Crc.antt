@@ -1,5 +1,5 @@
 -- CRC-64 as the format has it: bits lowest first, from 0, and nothing is done to the remainder at the end.
-use Rattle.std.specs.Prelude.{ℕ, zero, suc, ◌/◌, ◌%◌, ◌==◌, bit_xor, if◌then◌else◌, [], ◌∷◌}
+use Rattle.std.specs.Prelude.{ℕ, zero, suc, ◌*◌, ◌^◌, ◌/◌, ◌%◌, ◌==◌, bit_xor, if◌then◌else◌, [], ◌∷◌}
 use Rattle.df_model.specs.Values.{Bytes}
 
 -- the polynomial 0xad93d23594c935a9 with its bits turned round, since bits are taken lowest first
@@ -25,3 +25,7 @@ crc_from r (b ∷ bs) = crc_from (with_byte r b) bs
 
 abbrev pub crc : Bytes → ℕ
 crc bs = crc_from 0 bs
+
+-- a remainder with another 64 bits above it, which stand against what follows after eight bytes
+abbrev pub widened : ℕ → ℕ → ℕ
+widened r above = bit_xor (above * 2 ^ 64) r
